@@ -1,0 +1,2 @@
+-- The laws of logic.
+pub mod Known

@@ -1,0 +1,4 @@
+-- The laws of products.
+pub mod Product
+pub mod Address
+pub mod Known

@@ -1,0 +1,3 @@
+-- What a reader has to believe about products, in reading order.
+pub mod Products
+pub mod Known
