@@ -1,0 +1,3 @@
+pub mod Program
+pub mod Run
+pub mod Withhold
