@@ -1,0 +1,15 @@
+pub mod Op
+pub mod Mode
+pub mod Format
+pub mod None
+pub mod Cb
+pub mod Ed
+pub mod Dd
+pub mod Fd
+pub mod DdCb
+pub mod FdCb
+pub mod DdEd
+pub mod FdEd
+pub mod Opening
+pub mod Entry
+pub mod Counts
