@@ -1,7 +1,7 @@
 // Logic, rotates, shifts and single bits of a byte, and the eight operations on the accumulator by their code.
 ghost use mathlib.Core.Path.{_≡_};
 ghost use mathlib.Core.Bool.{true, false};
-ghost use Prim.Native.Nat.{_+_, _*_, _/_, _%_, _^_, _<_, _≤_};
+ghost use Prim.Native.Nat.{_+_, _*_, _/_, _%_, _^_, _≤_};
 ghost use Rattle.logic.specs.Logic.{even, resultFlags, andOf, orOf, xorOf, aluOf, cplOf, scfOf, ccfOf};
 ghost use Rattle.logic.specs.Shift.{leftWith, rightWith, tset, turnOf, rotateOf, rotateAOf, bitTestOf, resOf, setOf};
 use sums::Byte;

@@ -23,20 +23,16 @@ abbrev pub outside : ℕ → ℤ → Bool
 outside k z = ltZ z (negℤ (pos (2 ^ (k - 1)))) || leZ (pos (2 ^ (k - 1))) z
 
 -- V clear, H and N stay
+abbrev pub productFlags : Bool → Bool → Bool → Flags → Flags
+productFlags s z c old = record { s = s; z = z; h = old .h; v = false; n = old .n; c = c }
+
+-- signed: C where the product does not fit in k bits
 abbrev pub multFlags : ℕ → ℕ → ℕ → Flags → Flags
-multFlags k a b old =
-    record {
-      s = ltZ (product k a b) (pos 0);
-      z = eqZ (product k a b) (pos 0);
-      h = old .h;
-      v = false;
-      n = old .n;
-      c = outside k (product k a b);
-    }
+multFlags k a b = productFlags (ltZ (product k a b) (pos 0)) (eqZ (product k a b) (pos 0)) (outside k (product k a b))
 
 -- unsigned: S clear, C where the product is 2 ^ k or more
 abbrev pub multuFlags : ℕ → ℕ → ℕ → Flags → Flags
-multuFlags k a b old = record { s = false; z = eqb (a * b) 0; h = old .h; v = false; n = old .n; c = leb (2 ^ k) (a * b) }
+multuFlags k a b = productFlags false (eqb (a * b) 0) (leb (2 ^ k) (a * b))
 
 -- MULT, line 5052; MULTU, line 5114; MULTUW, line 5176; MULTW, line 5235
 unfoldable pub multOf : ℕ → ℕ → ℕ → Word

@@ -2,6 +2,6 @@
 pub mod Ints
 pub mod Over
 pub mod Pack
-pub mod Extend
 pub mod Past
+pub mod Extend
 pub mod Known

@@ -25,7 +25,7 @@ abbrev pub wrap : ℕ → ℤ → ℕ
 wrap k (pos n) = n % 2 ^ k
 wrap k (negsuc n) = 2 ^ k - 1 - n % 2 ^ k
 
--- EXTS, lines 3275 and 3316: the signed value in twice the bits
+-- EXTS, lines 3275 and 3314: the signed value in twice the bits
 abbrev pub extended : ℕ → ℕ → ℕ
 extended k a = wrap (k + k) (signed k a)
 

@@ -10,7 +10,7 @@ mul-p c = record { fits = below 16 (search needs) (search needs) }
 
 returns : tie.Need-returns
 unfolding multuwOf
-returns c = rw (c .over .ensures, c .before .of .ensures)
+returns c = rw (c .product-f .ensures)
 
 pub multu16-spec : {M : Type 1} → statement M
-multu16-spec = tie.close (tie.spec (λ c κs. search needs) mul-p (λ c κs. search needs) returns)
+multu16-spec = tie.close (tie.spec mul-p (λ c κs. search needs) returns)
