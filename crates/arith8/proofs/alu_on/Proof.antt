@@ -1,0 +1,12 @@
+-- `arith8::alu_on` meets its contract.
+use Rattle.arith8.specs.Arith8.{aluOn}
+use borrow.Author.Needs.{needs}
+use Rattle.arith8.proofs.alu_on.Statement.{statement}
+use Rattle.arith8.proofs.alu_on.Tie as tie
+
+returns : tie.Need-returns
+unfolding aluOn
+returns c = simp (← c .still .ensures, ← c .before .with-af .ensures, ← c .before .before .alu .ensures, ← c .before .before .before .f .ensures, ← c .before .before .before .before .a .ensures)
+
+pub alu-on-spec : {M : Type 1} → statement M
+alu-on-spec = tie.close (tie.spec (λ c κs. search needs) (λ c κs. search needs) (λ c κs. search needs) (λ c κs. search needs) (λ c κs. search needs) returns)
