@@ -1,0 +1,4 @@
+pub mod Descriptor
+pub mod Known
+pub mod Stack
+pub mod Unique

@@ -1,0 +1,4 @@
+pub mod Deliver
+pub mod Known
+pub mod Valid
+pub mod Words
