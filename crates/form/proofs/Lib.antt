@@ -1,0 +1,4 @@
+pub mod Facts
+pub mod Tests
+pub mod RoundTrip
+pub mod Known
