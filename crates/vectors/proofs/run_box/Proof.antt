@@ -1,0 +1,22 @@
+-- The letters that are left are fewer with each turn.
+use Prim.Native.Nat.{_-_}
+use native.Mathlib.Omega.{arith}
+use Rattle.vectors.proofs.run_box.Statement.{statement}
+use Rattle.vectors.proofs.run_box.Tie as tie
+
+abbrev Inv-loop : tie.InvT-loop
+Inv-loop s from to «open» w₀ t₀ i₀ w t i = Unit {0}
+
+abbrev μ-loop : tie.MeasureT-loop
+μ-loop s from to «open» w₀ t₀ i₀ w t i = to - i
+
+add-i : tie.Need-add-i Inv-loop μ-loop
+add-i c = omega arith
+
+loop-less : tie.Need-loop-less Inv-loop μ-loop
+loop-less c = omega arith
+
+pub run-box-spec : {M : Type 1} → statement M
+run-box-spec =
+    tie.close
+    (tie.spec Inv-loop μ-loop (λ c κs. tt) (λ c. tt) (λ c κs. tt) (λ c κs. tt) add-i loop-less (λ c. tt) (λ c κs. tt) (λ c. tt))
