@@ -1,0 +1,10 @@
+pub mod Allowed
+pub mod Corollaries
+pub mod Known
+pub mod Lasting
+pub mod Once
+pub mod Push
+pub mod Refusals
+pub mod Runs
+pub mod Withhold
+pub mod Works

@@ -1,0 +1,6 @@
+pub mod Corollaries
+pub mod Known
+pub mod Once
+pub mod Refusals
+pub mod Runs
+pub mod Withhold
