@@ -1,3 +1,4 @@
+pub mod Back
 pub mod Corollaries
 pub mod Known
 pub mod Once
