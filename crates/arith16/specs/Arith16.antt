@@ -40,12 +40,15 @@ addXxRr r u i = putXx r i (addHlOf (xxOf r i) (fieldOf r u i) (fOf r))
 unfoldable pub addXxA : Regs → Ins → Done
 addXxA r i = putXx r i (addAOf (xxOf r i) (aOf r) (fOf r))
 
--- CPW, line 2596, where bit 0 is set: HL stays; SUBW, line 7097, where bit 3 is set; else ADDW, line 2037: into HL. b is the source
+-- CPW, line 2596, where bit 0 of the operation code is set: a stays; SUBW, line 7097, where bit 3 is set; else ADDW, line 2037
+unfoldable pub aluwBy : (code a b f : ℕ) → Word
+aluwBy code a b f =
+    cond (eqb (code % 2) 1) (record { value = a; f = cpwOf a b f })
+    (cond (eqb (code / 8 % 2) 1) (subwOf a b f) (addwOf a b f))
+
+-- into HL; b is the source
 unfoldable pub aluwOn : Regs → Ins → ℕ → Done
-aluwOn r i b =
-    cond (eqb (i .code % 2) 1) (quiet (withF (cpwOf (r .hl) b (fOf r)) r))
-    (cond (eqb (i .code / 8 % 2) 1) (intoHl r (subwOf (r .hl) b (fOf r)))
-    (intoHl r (addwOf (r .hl) b (fOf r))))
+aluwOn r i b = intoHl r (aluwBy (i .code) (r .hl) b (fOf r))
 
 -- with a register pair; an immediate; a word of memory
 unfoldable pub aluwRr : Regs → Bool → Ins → Done

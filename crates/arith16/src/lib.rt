@@ -1,6 +1,6 @@
 // 16 bit arithmetic: what each instruction makes of the registers, whose PC is past it already, and of its operand.
 ghost use mathlib.Core.Path.{_≡_};
-ghost use Rattle.arith16.specs.Arith16.{fieldOf, putXx, adcXxRr, addXxRr, addXxA, aluwOn, aluwRr, aluwNn, aluwM, decwRr, decwM, withLong, extsHl, incwRr, incwM, putProduct, multwOn, multwRr, multwNn, multwM, negHl, sbcXxRr};
+ghost use Rattle.arith16.specs.Arith16.{fieldOf, putXx, adcXxRr, addXxRr, addXxA, aluwBy, aluwRr, aluwNn, aluwM, decwRr, decwM, withLong, extsHl, incwRr, incwM, putProduct, multwOn, multwRr, multwNn, multwM, negHl, sbcXxRr};
 use plan::kinds::Done;
 use plan::kinds::Ins;
 use plan::kinds::Spot;
@@ -47,37 +47,40 @@ pub fn add_xx_a(r: Regs, i: Ins) -> Done
     put_xx(r, i, sums::add_a(r.index(i.opening), r.a(), r.f()))
 }
 
-// CPW, SUBW or ADDW of HL and b.
-fn aluw_on(r: Regs, i: Ins, b: u16) -> Done
-    ensures { λ d. ⌜ d ≡ aluwOn r i b ⌝ }
+// CPW, SUBW or ADDW of a and b, on numbers: a function on the whole record would take it through memory.
+fn aluw(code: u8, a: u16, b: u16, f: u8) -> Word
+    ensures { λ x. ⌜ x ≡ aluwBy code a b f ⌝ }
 {
-    let compares = i.code % 2 == 1;
+    let compares = code % 2 == 1;
     if compares {
-        return still(r.with_f(sums::cpw(r.hl, b, r.f())));
+        return Word {
+            value: a,
+            f: sums::cpw(a, b, f),
+        };
     }
-    let subtracts = i.code / 8 % 2 == 1;
+    let subtracts = code / 8 % 2 == 1;
     if subtracts {
-        return into_hl(r, sums::subw(r.hl, b, r.f()));
+        return sums::subw(a, b, f);
     }
-    into_hl(r, sums::addw(r.hl, b, r.f()))
+    sums::addw(a, b, f)
 }
 
 pub fn aluw_rr(r: Regs, u: bool, i: Ins) -> Done
     ensures { λ d. ⌜ d ≡ aluwRr r u i ⌝ }
 {
-    aluw_on(r, i, field(r, u, i))
+    into_hl(r, aluw(i.code, r.hl, field(r, u, i), r.f()))
 }
 
 pub fn aluw_nn(r: Regs, i: Ins) -> Done
     ensures { λ d. ⌜ d ≡ aluwNn r i ⌝ }
 {
-    aluw_on(r, i, low16(i.arg))
+    into_hl(r, aluw(i.code, r.hl, low16(i.arg), r.f()))
 }
 
 pub fn aluw_m(r: Regs, i: Ins, v: u32) -> Done
     ensures { λ d. ⌜ d ≡ aluwM r i v ⌝ }
 {
-    aluw_on(r, i, low16(v))
+    into_hl(r, aluw(i.code, r.hl, low16(v), r.f()))
 }
 
 pub fn decw_rr(r: Regs, u: bool, i: Ins) -> Done

@@ -1,6 +1,6 @@
 // 8 bit arithmetic and logic: what each instruction makes of the registers, whose PC is past it already, and of its operand.
 ghost use mathlib.Core.Path.{_≡_};
-ghost use Rattle.arith8.specs.Arith8.{aluOn, aluR, aluN, aluM, cplA, fieldOf, decR, decM, extsA, incR, incM, multOn, multR, multN, multM, negA};
+ghost use Rattle.arith8.specs.Arith8.{aluR, aluN, aluM, cplA, fieldOf, decR, decM, extsA, incR, incM, multOn, multR, multN, multM, negA};
 use plan::kinds::Done;
 use plan::kinds::Ins;
 use plan::kinds::Spot;
@@ -11,29 +11,24 @@ use plan::results::into_m;
 use plan::results::into_r;
 use regs::Regs;
 
-// ADD ADC SUB SBC AND XOR OR CP of the accumulator and b.
-fn alu_on(r: Regs, i: Ins, b: u8) -> Done
-    ensures { λ d. ⌜ d ≡ aluOn r i b ⌝ }
-{
-    still(r.with_af(logic::alu(i.code / 8 % 8, r.a(), b, r.f())))
-}
-
+// ADD ADC SUB SBC AND XOR OR CP, by bits 5 to 3. `alu` is on numbers: a function on the whole record would take it through memory.
 pub fn alu_r(r: Regs, i: Ins) -> Done
     ensures { λ d. ⌜ d ≡ aluR r i ⌝ }
 {
-    alu_on(r, i, r.byte(i.opening, i.code % 8))
+    let b = r.byte(i.opening, i.code % 8);
+    still(r.with_af(logic::alu(i.code / 8 % 8, r.a(), b, r.f())))
 }
 
 pub fn alu_n(r: Regs, i: Ins) -> Done
     ensures { λ d. ⌜ d ≡ aluN r i ⌝ }
 {
-    alu_on(r, i, low8(i.arg))
+    still(r.with_af(logic::alu(i.code / 8 % 8, r.a(), low8(i.arg), r.f())))
 }
 
 pub fn alu_m(r: Regs, i: Ins, v: u32) -> Done
     ensures { λ d. ⌜ d ≡ aluM r i v ⌝ }
 {
-    alu_on(r, i, low8(v))
+    still(r.with_af(logic::alu(i.code / 8 % 8, r.a(), low8(v), r.f())))
 }
 
 pub fn cpl(r: Regs) -> Done

@@ -68,7 +68,7 @@ pub fn still(r: Regs) -> Done
     ensures { λ d. ⌜ d ≡ quiet r ⌝ }
 {
     Done {
-        regs: r,
+        regs: r.same(),
         write: Write::Nothing,
     }
 }
@@ -78,7 +78,7 @@ pub fn storing(r: Regs, s: Spot, b: u8) -> Done
     ensures { λ d. ⌜ d ≡ stores r s b ⌝ }
 {
     Done {
-        regs: r,
+        regs: r.same(),
         write: Write::One(s.program, s.a, b),
     }
 }
@@ -88,7 +88,7 @@ pub fn storing_word(r: Regs, s: Spot, v: u16) -> Done
     ensures { λ d. ⌜ d ≡ storesWord r s v ⌝ }
 {
     Done {
-        regs: r,
+        regs: r.same(),
         write: Write::Two(s.program, s.a, v),
     }
 }

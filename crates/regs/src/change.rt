@@ -4,6 +4,29 @@ ghost use Rattle.regs.specs.Change.{withAf, withBc, withDe, withHl, with
 use crate::Regs;
 
 impl Regs {
+    // The same registers, field by field. A record that is copied whole is copied in eights of bytes, and each field is then packed and unpacked.
+    pub fn same(self) -> Regs
+        ensures { λ r. ⌜ r ≡ self ⌝ }
+    {
+        Regs {
+            af: self.af,
+            bc: self.bc,
+            de: self.de,
+            hl: self.hl,
+            af2: self.af2,
+            bc2: self.bc2,
+            de2: self.de2,
+            hl2: self.hl2,
+            ix: self.ix,
+            iy: self.iy,
+            pc: self.pc,
+            ssp: self.ssp,
+            usp: self.usp,
+            bankaf: self.bankaf,
+            bankx: self.bankx,
+        }
+    }
+
     pub fn with_af(self, v: u16) -> Regs
         ensures { λ r. ⌜ r ≡ withAf v self ⌝ }
     {

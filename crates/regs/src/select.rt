@@ -104,18 +104,20 @@ impl Regs {
         }
     }
 
+    // The high half is made once: so the whole is short enough for the compiler to draw it into each caller.
     pub fn put_byte(self, o: u8, k: u8, v: u8) -> Regs
         ensures { λ r. ⌜ r ≡ putByte o k v self ⌝ }
     {
+        let h = v as u16 * 256;
         match k {
-            0 => self.with_bc(put_high(v, self.bc)),
+            0 => self.with_bc(h + self.bc % 256),
             1 => self.with_bc(put_low(v, self.bc)),
-            2 => self.with_de(put_high(v, self.de)),
+            2 => self.with_de(h + self.de % 256),
             3 => self.with_de(put_low(v, self.de)),
-            4 => self.put_index(o, put_high(v, self.index(o))),
+            4 => self.put_index(o, h + self.index(o) % 256),
             5 => self.put_index(o, put_low(v, self.index(o))),
             6 => self,
-            7 => self.put_a(v),
+            7 => self.with_af(h + self.af % 256),
             _ => self,
         }
     }
