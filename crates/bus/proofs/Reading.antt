@@ -1,8 +1,8 @@
 -- Several bytes one after another: a way's facts in, the definition's answer out.
-use Prim.Native.Nat.{ℕ, zero, suc, _+_, _*_, _/_, _%_, _-_, _<_, _≤_}
+use Prim.Native.Nat.{ℕ, zero, suc, _+_, _-_, _≤_}
 use mathlib.Core.Path.{_≡_, refl, sym, _∙_, ap}
 use mathlib.Core.Logic.{_⊎_, inl, inr}
-use mathlib.Core.Bool.{Bool, true, false, cond}
+use mathlib.Core.Bool.{Bool, true, false}
 use mathlib.Core.List.{List, [], _∷_}
 use native.Mathlib.Omega.{arith}
 use types.Run.{OneOf}
@@ -10,7 +10,10 @@ use denote.Enum.Declared.{tagOf}
 use Rattle.board.proofs.Got as G
 use Rattle.board.specs.declared.Got.{Got}
 use Rattle.board.specs.declared.Got.the-variants.{Byte, Denied, Lacks}
-use Rattle.bus.specs.Access.{next, readFrom, gotMany, joined, andThen}
+use lib.Dec.{eqb, ltb}
+use lib.ListN.{List·getD-eq-default}
+use borrow.Author.Tests.{eqb-true, eqb-false, ltb-false, ne-eqb}
+use Rattle.bus.specs.Access.{next, readFrom, gotMany, gotFew, joined, andThen, counts, count}
 
 -- what the other side of `let Got::Byte(b) = g else` knows
 abbrev pub Lost : Got → Type 0
@@ -42,3 +45,106 @@ pub one-read : (u : Bool) (mmu : ℕ) (ds w : List ℕ) (k : Bool) (a b r : ℕ)
     g ≡ readFrom u mmu ds w k a → g ≡ Byte b → r ≡ joined b 0 → Byte r ≡ gotMany 1 u mmu ds w k a
 unfolding gotMany andThen
 one-read u mmu ds w k a b r g e p x = rw (← e, p, x)
+
+-- ── no more than so many ──
+
+module _ (k n : ℕ) (u : Bool) (mmu : ℕ) (ds w : List ℕ) (p : Bool) (a : ℕ) where
+  pub few-none : eqb n 0 ≡ true → Byte 0 ≡ gotFew (suc k) n u mmu ds w p a
+  unfolding gotFew
+  few-none t = rw t
+
+  pub few-lost : (g : Got) → eqb n 0 ≡ false → g ≡ readFrom u mmu ds w p a → Lost g → g ≡ gotFew (suc k) n u mmu ds w p a
+  unfolding gotFew
+  few-lost g t e o = rw (t, ← e) (and-lost g _ o)
+
+  pub few-rest-lost : (b q : ℕ) (g h : Got) → eqb n 0 ≡ false → g ≡ readFrom u mmu ds w p a → g ≡ Byte b → q ≡ next a →
+      h ≡ gotFew k (n - 1) u mmu ds w p q → Lost h → h ≡ gotFew (suc k) n u mmu ds w p a
+  unfolding gotFew andThen
+  few-rest-lost b q g h t e x s y o = rw (t, ← e, x, ← s, ← y) (and-lost h _ o)
+
+  pub few-all : (b q v r : ℕ) (g h : Got) → eqb n 0 ≡ false → g ≡ readFrom u mmu ds w p a → g ≡ Byte b → q ≡ next a →
+      h ≡ gotFew k (n - 1) u mmu ds w p q → h ≡ Byte v → r ≡ joined b v → Byte r ≡ gotFew (suc k) n u mmu ds w p a
+  unfolding gotFew andThen
+  few-all b q v r g h t e x s y z j = rw (t, ← e, x, ← s, ← y, z, j)
+
+pub few-one : (n : ℕ) (u : Bool) (mmu : ℕ) (ds w : List ℕ) (p : Bool) (a b r : ℕ) (g : Got) → eqb n 0 ≡ false →
+    g ≡ readFrom u mmu ds w p a → g ≡ Byte b → r ≡ joined b 0 → Byte r ≡ gotFew 1 n u mmu ds w p a
+unfolding gotFew andThen
+few-one n u mmu ds w p a b r g t e x j = rw (t, ← e, x, j)
+
+-- as many as k where n is as many or more
+few-full : (k n : ℕ) (u : Bool) (mmu : ℕ) (ds w : List ℕ) (p : Bool) (a : ℕ) → gotFew k (k + n) u mmu ds w p a ≡ gotMany k u mmu ds w p a
+unfolding gotFew gotMany
+few-full zero n u mmu ds w p a = refl
+few-full (suc k) n u mmu ds w p a = rw (ne-eqb (suc k + n) 0 (λ e. omega (arith, e)), less k n, few-full k n u mmu ds w p (next a))
+  where
+    less : (k n : ℕ) → (suc k + n) - 1 ≡ k + n
+    less k n = omega arith
+
+four-more : (n : ℕ) → suc (suc (suc (suc n))) ≡ 4 + n
+four-more n = omega arith
+
+more : (n : ℕ) → 4 ≤ suc (suc (suc (suc n)))
+more n = omega arith
+
+-- four are enough: it is the number that the definition reads
+pub few-is : (n : ℕ) (u : Bool) (mmu : ℕ) (ds w : List ℕ) (p : Bool) (a : ℕ) → gotFew 4 n u mmu ds w p a ≡ gotMany (count n) u mmu ds w p a
+unfolding gotFew gotMany count
+few-is zero u mmu ds w p a = refl
+few-is (suc zero) u mmu ds w p a = refl
+few-is (suc (suc zero)) u mmu ds w p a = refl
+few-is (suc (suc (suc zero))) u mmu ds w p a = refl
+few-is (suc (suc (suc (suc n)))) u mmu ds w p a =
+    ap (λ x. gotFew 4 x u mmu ds w p a) (four-more n) ∙ few-full 4 n u mmu ds w p a ∙
+    ap (λ x. gotMany x u mmu ds w p a) (sym (List·getD-eq-default counts 4 (more n)))
+
+-- ── an operand ──
+
+-- one, where it is neither none nor more than two nor two; and so on
+one-of : (n : ℕ) → eqb n 0 ≡ false → ltb 2 n ≡ false → (n ≡ 1) ⊎ (n ≡ 2)
+one-of zero t f = absurd (eqb-false 0 0 t refl)
+one-of (suc zero) t f = inl refl
+one-of (suc (suc zero)) t f = inr refl
+one-of (suc (suc (suc n))) t f = absurd (omega (arith, ltb-false 2 (suc (suc (suc n))) f))
+
+module _ (n : ℕ) (u : Bool) (mmu : ℕ) (ds w : List ℕ) (p : Bool) (a : ℕ) where
+  pub operand-none : eqb n 0 ≡ true → Byte 0 ≡ gotMany (count n) u mmu ds w p a
+  unfolding gotMany count
+  operand-none t = rw (eqb-true n 0 t)
+
+  pub operand-lost : (g : Got) → eqb n 0 ≡ false → ltb 2 n ≡ false → g ≡ readFrom u mmu ds w p a → Lost g → g ≡ gotMany (count n) u mmu ds w p a
+  unfolding count
+  operand-lost g t f e o = go (one-of n t f)
+    where
+      go : (n ≡ 1) ⊎ (n ≡ 2) → g ≡ gotMany (count n) u mmu ds w p a
+      go (inl h) = rw h (first-lost 0 u mmu ds w p a g e o)
+      go (inr h) = rw h (first-lost 1 u mmu ds w p a g e o)
+
+  pub operand-one : (b r : ℕ) (g : Got) → g ≡ readFrom u mmu ds w p a → g ≡ Byte b → eqb n 1 ≡ true → r ≡ joined b 0 →
+      Byte r ≡ gotMany (count n) u mmu ds w p a
+  unfolding count
+  operand-one b r g e x t j = rw (eqb-true n 1 t) (one-read u mmu ds w p a b r g e x j)
+
+  two : eqb n 0 ≡ false → ltb 2 n ≡ false → eqb n 1 ≡ false → n ≡ 2
+  two t f o = go (one-of n t f)
+    where
+      go : (n ≡ 1) ⊎ (n ≡ 2) → n ≡ 2
+      go (inl h) = absurd (eqb-false n 1 o h)
+      go (inr h) = h
+
+  pub operand-rest-lost : (b q : ℕ) (g h : Got) → eqb n 0 ≡ false → ltb 2 n ≡ false → g ≡ readFrom u mmu ds w p a → g ≡ Byte b → eqb n 1 ≡ false →
+      q ≡ next a → h ≡ readFrom u mmu ds w p q → Lost h → h ≡ gotMany (count n) u mmu ds w p a
+  unfolding count
+  operand-rest-lost b q g h t f e x o s y l =
+      rw (two t f o) (rest-lost 1 u mmu ds w p a b q g h e x s (first-lost 0 u mmu ds w p q h y l) l)
+
+  pub operand-two : (b q v i r : ℕ) (g h : Got) → eqb n 0 ≡ false → ltb 2 n ≡ false → g ≡ readFrom u mmu ds w p a → g ≡ Byte b → eqb n 1 ≡ false →
+      q ≡ next a → h ≡ readFrom u mmu ds w p q → h ≡ Byte v → i ≡ joined v 0 → r ≡ joined b i → Byte r ≡ gotMany (count n) u mmu ds w p a
+  unfolding count
+  operand-two b q v i r g h t f e x o s y z j k =
+      rw (two t f o) (all-read 1 u mmu ds w p a b q i r g (Byte i) e x s (one-read u mmu ds w p q v i h y z j) refl k)
+
+-- not none
+pub some : (n : ℕ) → eqb n 0 ≡ false → 1 ≤ n
+some zero t = absurd (eqb-false 0 0 t refl)
+some (suc n) t = omega arith

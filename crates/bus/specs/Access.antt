@@ -1,8 +1,8 @@
 -- Accesses over plain values: a byte read, room for a byte to be written, several bytes as one number.
-use Prim.Native.Nat.{ℕ, zero, suc, _+_, _*_, _%_}
-use mathlib.Core.Bool.{Bool, true, false}
+use Prim.Native.Nat.{ℕ, zero, suc, _+_, _*_, _-_, _%_}
+use mathlib.Core.Bool.{Bool, true, false, cond}
 use mathlib.Core.List.{List, [], _∷_}
-use lib.Dec.{ltb}
+use lib.Dec.{eqb, ltb}
 use lib.ListN.{getD}
 use Rattle.mmu.specs.Translate.{translate}
 use Rattle.board.specs.declared.Got.{Got}
@@ -44,3 +44,11 @@ gotMany zero user mmu ds w program a = Byte 0
 gotMany (suc n) user mmu ds w program a =
     andThen (readFrom user mmu ds w program a)
     (λ b. andThen (gotMany n user mmu ds w program (next a)) (λ v. Byte (joined b v)))
+
+-- n bytes in the same way, and no more than k
+unfoldable pub gotFew : (k n : ℕ) (user : Bool) (mmu : ℕ) (ds w : List ℕ) (program : Bool) (a : ℕ) → Got
+gotFew zero n user mmu ds w program a = Byte 0
+gotFew (suc k) n user mmu ds w program a =
+    cond (eqb n 0) (Byte 0)
+    (andThen (readFrom user mmu ds w program a)
+    (λ b. andThen (gotFew k (n - 1) user mmu ds w program (next a)) (λ v. Byte (joined b v))))

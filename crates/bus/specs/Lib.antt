@@ -1,3 +1,4 @@
 pub mod Board
 pub mod Access
 pub mod Leave
+pub mod Write

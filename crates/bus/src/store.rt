@@ -3,10 +3,10 @@ ghost use mathlib.Core.Path.{_≡_};
 ghost use mathlib.Core.List.{List};
 ghost use Prim.Native.Nat.{ℕ};
 ghost use lib.ListN.{length};
-ghost use Rattle.board.specs.Program.{writes};
-ghost use Rattle.regs.specs.Select.{userOf};
+ghost use Rattle.mmu.specs.Translate.{modeBits};
 ghost use Rattle.bus.specs.Access.{roomFor};
 ghost use Rattle.bus.specs.Leave.{stateOf, whole, denial, oneWrite, twoWrites, listed};
+ghost use Rattle.bus.specs.Write.{Wrote};
 use crate::kinds::Event;
 use crate::kinds::Turn;
 use crate::read::next_of;
@@ -43,11 +43,18 @@ pub fn denied(r: Regs, c: Control, control: u16, g: Got) -> Turn
 }
 
 // The physical address that a write goes to.
-fn room_for(c: Control, control: u16, ds: &[u16; 32], size: usize, program: bool, a: u16) -> Got
-    ensures { λ r. ⌜ r ≡ roomFor (userOf c) control (now (ds .entry)) size program a ⌝ }
+fn room_for(
+    user: bool,
+    bits: u8,
+    control: u16,
+    ds: &[u16; 32],
+    size: usize,
+    program: bool,
+    a: u16,
+) -> Got
+    requires { ⌜ bits ≡ modeBits control user ⌝ }
+    ensures { λ r. ⌜ r ≡ roomFor user control (now (ds .entry)) size program a ⌝ }
 {
-    let user = c.user();
-    let bits = mmu::mode_bits(control, user);
     let place = mmu::translate(bits, user, ds, program, true, a);
     match place {
         Place::At(p) => {
@@ -59,94 +66,75 @@ fn room_for(c: Control, control: u16, ds: &[u16; 32], size: usize, program: bool
     }
 }
 
-fn write_one(
-    r: Regs,
-    c: Control,
+fn put_one(
+    user: bool,
+    bits: u8,
     control: u16,
     ds: &mut [u16; 32],
     w: &mut [u8],
-    q: Regs,
     k: bool,
     a: u16,
     b: u8,
-) -> Turn
-    ensures { λ t. ⌜ whole t (now (ds .exit)) (now (w .exit)) ≡ writes (stateOf r c control (now (ds .entry)) (now (w .entry))) q (oneWrite k a b) (now (ds .entry)) (now (w .entry)) ⌝ }
+) -> Got
+    requires { ⌜ bits ≡ modeBits control user ⌝ }
+    ensures { λ g. ⌜ Wrote user control (oneWrite k a b) g (now (ds .entry)) (now (w .entry)) (now (ds .exit)) (now (w .exit)) ⌝ }
 {
-    let g = room_for(c, control, ds, w.len(), k, a);
+    let g = room_for(user, bits, control, ds, w.len(), k, a);
     let Got::Byte(p) = g else {
-        return denied(r, c, control, g);
+        return g;
     };
     let i = p as usize;
     w[i] = b;
-    let user = c.user();
-    let bits = mmu::mode_bits(control, user);
     mmu::mark(bits, user, ds, k, a);
-    Turn {
-        regs: q,
-        ctl: c,
-        mmu: control,
-        event: Event::Completed,
-    }
+    Got::Byte(0)
 }
 
-fn write_two(
-    r: Regs,
-    c: Control,
+fn put_two(
+    user: bool,
+    bits: u8,
     control: u16,
     ds: &mut [u16; 32],
     w: &mut [u8],
-    q: Regs,
     k: bool,
     a: u16,
     v: u16,
-) -> Turn
-    ensures { λ t. ⌜ whole t (now (ds .exit)) (now (w .exit)) ≡ writes (stateOf r c control (now (ds .entry)) (now (w .entry))) q (twoWrites k a v) (now (ds .entry)) (now (w .entry)) ⌝ }
+) -> Got
+    requires { ⌜ bits ≡ modeBits control user ⌝ }
+    ensures { λ g. ⌜ Wrote user control (twoWrites k a v) g (now (ds .entry)) (now (w .entry)) (now (ds .exit)) (now (w .exit)) ⌝ }
 {
-    let g = room_for(c, control, ds, w.len(), k, a);
+    let g = room_for(user, bits, control, ds, w.len(), k, a);
     let Got::Byte(p) = g else {
-        return denied(r, c, control, g);
+        return g;
     };
     let z = next_of(a);
-    let h = room_for(c, control, ds, w.len(), k, z);
+    let h = room_for(user, bits, control, ds, w.len(), k, z);
     let Got::Byte(p2) = h else {
-        return denied(r, c, control, h);
+        return h;
     };
     let i = p as usize;
     let j = p2 as usize;
     w[i] = (v % 256) as u8;
     w[j] = (v / 256) as u8;
-    let user = c.user();
-    let bits = mmu::mode_bits(control, user);
     mmu::mark(bits, user, ds, k, a);
     mmu::mark(bits, user, ds, k, z);
-    Turn {
-        regs: q,
-        ctl: c,
-        mmu: control,
-        event: Event::Completed,
-    }
+    Got::Byte(0)
 }
 
-// q are the registers where the step completes.
+// All writes of an instruction, or the first fault: then no byte and no descriptor has changed.
 pub fn write_out(
-    r: Regs,
-    c: Control,
+    user: bool,
+    bits: u8,
     control: u16,
     ds: &mut [u16; 32],
     w: &mut [u8],
-    q: Regs,
     x: Write,
-) -> Turn
-    ensures { λ t. ⌜ whole t (now (ds .exit)) (now (w .exit)) ≡ writes (stateOf r c control (now (ds .entry)) (now (w .entry))) q (listed x) (now (ds .entry)) (now (w .entry)) ⌝ }
+) -> Got
+    requires { ⌜ bits ≡ modeBits control user ⌝ }
+    ensures { λ g. ⌜ Wrote user control (listed x) g (now (ds .entry)) (now (w .entry)) (now (ds .exit)) (now (w .exit)) ⌝ }
 {
     match x {
-        Write::Nothing => Turn {
-            regs: q,
-            ctl: c,
-            mmu: control,
-            event: Event::Completed,
-        },
-        Write::One(k, a, b) => write_one(r, c, control, ds, w, q, k, a, b),
-        Write::Two(k, a, v) => write_two(r, c, control, ds, w, q, k, a, v),
+        Write::Nothing => Got::Byte(0),
+        Write::One(k, a, b) => put_one(user, bits, control, ds, w, k, a, b),
+        Write::Two(k, a, v) => put_two(user, bits, control, ds, w, k, a, v),
     }
 }

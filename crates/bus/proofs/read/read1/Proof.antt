@@ -1,3 +1,4 @@
+-- `bus::read::read1` meets its contract.
 use Rattle.bus.proofs.Reading.{first-lost, one-read}
 use borrow.Author.Needs.{needs}
 use Rattle.bus.proofs.read.read1.Statement.{statement}
@@ -10,4 +11,6 @@ returns-2 : tie.Need-returns-2
 returns-2 c = one-read _ _ _ _ _ _ _ _ _ (c .before .before .before .before .read-byte .ensures) (c .before .before .g .given .1) (c .join .ensures)
 
 pub read1-spec : {M : Type 1} → statement M
-read1-spec = tie.close (tie.spec (λ c κs. search needs) (λ c. search needs) returns (λ c κs. search needs) returns-2)
+read1-spec =
+    tie.close
+    (tie.spec (λ c κs. search needs) (λ c. search needs) returns (λ c κs. search needs) returns-2)

@@ -1,3 +1,4 @@
+-- `bus::read::read4` meets its contract.
 use Rattle.bus.proofs.Reading.{first-lost, rest-lost, all-read}
 use borrow.Author.Needs.{needs}
 use Rattle.bus.proofs.read.read4.Statement.{statement}
@@ -15,13 +16,4 @@ returns-3 c = all-read 3 _ _ _ _ _ _ _ _ _ _ _ _ (c .before .before .before .bef
 pub read4-spec : {M : Type 1} → statement M
 read4-spec =
     tie.close
-    (tie.spec
-    (λ c κs. search needs)
-    (λ c. search needs)
-    returns
-    (λ c κs. search needs)
-    (λ c κs. search needs)
-    (λ c. search needs)
-    returns-2
-    (λ c κs. search needs)
-    returns-3)
+    (tie.spec (λ c κs. search needs) (λ c. search needs) returns (λ c κs. search needs) (λ c κs. search needs) (λ c. search needs) returns-2 (λ c κs. search needs) returns-3)

@@ -1,3 +1,4 @@
+-- `bus::store::write_out` meets its contract.
 use Rattle.bus.proofs.Ends.{out-1, out-2, out-3}
 use borrow.Author.Needs.{needs}
 use Rattle.bus.proofs.store.write_out.Statement.{statement}
@@ -15,14 +16,4 @@ returns-3 c = search out-3
 pub write-out-spec : {M : Type 1} → statement M
 write-out-spec =
     tie.close
-    (tie.spec
-    (λ c. search needs)
-    (λ c. search needs)
-    (λ c κs. search needs)
-    (λ c. search needs)
-    (λ c κs. search needs)
-    returns
-    (λ c. search needs)
-    returns-2
-    (λ c. search needs)
-    returns-3)
+    (tie.spec (λ c. search needs) (λ c. search needs) (λ c κs. search needs) (λ c. search needs) (λ c κs. search needs) returns (λ c. search needs) returns-2 (λ c. search needs) returns-3)
