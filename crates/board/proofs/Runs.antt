@@ -71,7 +71,7 @@ module _ {B : Board} (prog : Program B) where
   none-left : (limit n : ℕ) → limit ≤ n → limit - n ≡ 0
   none-left limit n h = omega arith
 
-  opened : (limit : ℕ) (s : State B) (n : ℕ) (t : State B) → Going limit s n t → n < limit →
+  pub opened : (limit : ℕ) (s : State B) (n : ℕ) (t : State B) → Going limit s n t → n < limit →
       run prog limit s ≡ later n (goOn ((step prog t) .state) ((step prog t) .event) (run prog (limit - (n + 1))))
   unfolding run
   opened limit s n t g h = g ∙ ap (λ x. later n (run prog x t)) (one-more limit n h)

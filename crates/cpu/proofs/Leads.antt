@@ -1,18 +1,20 @@
 -- The fetch of an opening sequence: what its program comes to, and a law for each way out of its functions.
 use Prim.Native.Nat.{ℕ, _%_}
 use mathlib.Core.Path.{_≡_, refl, sym, _∙_, ap}
-use mathlib.Core.Logic.{_⊎_, inl, inr}
+use mathlib.Core.Logic.{inl, inr}
 use mathlib.Core.Bool.{Bool, true, false, cond}
 use mathlib.Core.List.{List}
 use native.Mathlib.Omega.{arith}
 use lib.Dec.{eqb, ltb}
+use borrow.Author.Tests.{eqb-true}
 use Rattle.board.specs.Program as b
 use Rattle.board.specs.declared.Got.{Got}
 use Rattle.board.specs.declared.Got.the-variants.{Byte, Denied, Lacks}
 use Rattle.regs.specs.declared.Regs.{Regs}
 use Rattle.regs.specs.declared.Control.{Control}
 use Rattle.regs.specs.Select.{userOf}
-use Rattle.decode.specs.Opening.{openingOf, afterOpening}
+use Rattle.decode.specs.Opening.{openingOf, afterOpening, entered}
+use Rattle.decode.specs.None.{formatsNone}
 use Rattle.bus.specs.Board.{real}
 use Rattle.bus.specs.Access.{next, readFrom}
 use Rattle.bus.specs.Leave.{stateOf, denial}
@@ -148,3 +150,20 @@ module _ (u : Bool) (mmu : ℕ) (ds w : List ℕ) (a : ℕ) (g : Got) (e : g ≡
   pub lead-on : (b z : ℕ) (x : Lead) → g ≡ Byte b → z ≡ next a → x ≡ leadFirst u mmu ds w z (b % 256) → x ≡ leadOf u mmu ds w a
   unfolding leadOf
   lead-on b z x h q p = on-read x (λ b. leadFirst u mmu ds w (next a) (b % 256)) b h (rw (← q) p)
+
+-- ── a byte whose entry is an operation from 24 on opens nothing ──
+
+module _ (x e : ℕ) (h : e ≡ entered 0 x) (f : ltb e 12288 ≡ false) where
+  -- were it the byte y, which opens
+  not-at : (y : ℕ) → ltb (entered 0 y) 12288 ≡ true → eqb x y ≡ false
+  not-at y l = go (eqb x y) refl
+    where
+      go : (t : Bool) → eqb x y ≡ t → eqb x y ≡ false
+      go false q = q
+      go true q =
+          let z : _≡_ {A = Bool} true false = sym l ∙ ap (λ k. ltb (entered 0 k) 12288) (sym (eqb-true x y q)) ∙ ap (λ k. ltb k 12288) (sym h) ∙ f in
+          let n : _≡_ {A = ℕ} 0 1 = cc in absurd (omega arith)
+
+  pub opens-nothing : (u : Bool) (mmu : ℕ) (ds w : List ℕ) (a : ℕ) → lead.Code 0 x 0 a ≡ leadFirst u mmu ds w a x
+  unfolding leadFirst openingOf entered formatsNone
+  opens-nothing u mmu ds w a = rw (not-at 0xCB refl, not-at 0xED refl, not-at 0xDD refl, not-at 0xFD refl)

@@ -1,3 +1,4 @@
 pub mod Leads
 pub mod Ways
 pub mod Loop
+pub mod Straight

@@ -1,3 +1,5 @@
 pub mod Program
 pub mod Lead
+pub mod Turns
+pub mod Burst
 pub mod Machine

@@ -1,6 +1,5 @@
-// What the fetch of an opening sequence comes to, and what a run leaves.
-use bus::kinds::Event;
-use regs::Machine;
+// What the fetch of an opening sequence comes to, and what a burst leaves.
+use bus::kinds::Turn;
 
 // Code: the opening, the operation code, the displacement before it, the address behind it. Or the access's fault.
 pub enum Lead {
@@ -9,9 +8,8 @@ pub enum Lead {
     Lacks(u64),
 }
 
-// The machine after the completed steps, and the event that ended the run.
-pub struct Ran {
-    pub machine: Machine,
-    pub event: Event,
+// The steps that a burst completed, and the turn of the step after them; where they are the limit, a turn that is none.
+pub struct Burst {
+    pub turn: Turn,
     pub steps: u16,
 }

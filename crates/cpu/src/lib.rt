@@ -1,5 +1,6 @@
-// The processor: the stages of a step, each proved to be its program's execution, and the run.
+// The processor: the stages of a step, and steps in a row.
+pub mod burst;
 pub mod fetch;
 pub mod kinds;
 pub mod stages;
-pub mod steps;
+mod turns;

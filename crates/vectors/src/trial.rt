@@ -234,7 +234,7 @@ fn run(mut t: Trial, w: &mut [u8; 65536]) -> Trial {
         mmu: 0,
         ds: [0; 32],
     };
-    let ran = cpu::steps::run_steps(start, w, t.steps);
+    let ran = steps::run_steps(start, w, t.steps);
     let m = ran.machine;
     let r = m.regs;
     let c = m.ctl;

@@ -1,19 +1,16 @@
-use Rattle.cpu.proofs.Leads.{first-on}
-use Rattle.cpu.proofs.Leads.{first-lost}
-use Rattle.cpu.specs.Lead.{leadFirst}
+-- `cpu::fetch::lead_first` meets its contract.
+use Rattle.cpu.proofs.Leads.{opens-nothing}
 use borrow.Author.Needs.{needs}
 use Rattle.cpu.proofs.fetch.lead_first.Statement.{statement}
 use Rattle.cpu.proofs.fetch.lead_first.Tie as tie
 
 returns : tie.Need-returns
-unfolding leadFirst
-returns c = simp (c .if1 .taken, ← c .before .opening-of .ensures)
+returns c = (c .lead-opened .ensures)
 
 returns-2 : tie.Need-returns-2
-returns-2 c = first-lost _ _ _ _ _ _ (c .before .before .read-byte .ensures) _ _ _ (c .before .before .before .before .opening-of .ensures) (c .before .before .before .if1 .left) (c .before .match .keys2) (c .lost-lead .ensures)
-
-returns-3 : tie.Need-returns-3
-returns-3 c = first-on _ _ _ _ _ _ (c .before .before .before .before .before .read-byte .ensures) _ _ _ _ _ (c .before .before .before .before .before .before .before .opening-of .ensures) (c .before .before .before .before .before .before .if1 .left) (c .before .before .before .g .given .1) (c .before .next-of .ensures) (c .lead-second .ensures)
+returns-2 c = opens-nothing _ _ (c .before .entry-in .ensures) (c .if1 .left) _ _ _ _ _
 
 pub lead-first-spec : {M : Type 1} → statement M
-lead-first-spec = tie.close (tie.spec (λ c κs. search needs) returns (λ c κs. search needs) (λ c. search needs) (λ c κs. search needs) returns-2 (λ c κs. search needs) (λ c. search needs) (λ c κs. search needs) returns-3)
+lead-first-spec =
+    tie.close
+    (tie.spec (λ c κs. search needs) (λ c κs. search needs) returns returns-2)

@@ -1,6 +1,5 @@
-use Rattle.cpu.proofs.Leads.{third-on}
-use Rattle.cpu.proofs.Leads.{third-more}
-use Rattle.cpu.proofs.Leads.{third-lost}
+-- `cpu::fetch::lead_third` meets its contract.
+use Rattle.cpu.proofs.Leads.{third-lost, third-more, third-on}
 use borrow.Author.Needs.{needs}
 use Rattle.cpu.proofs.fetch.lead_third.Statement.{statement}
 use Rattle.cpu.proofs.fetch.lead_third.Tie as tie
@@ -15,4 +14,6 @@ returns-3 : tie.Need-returns-3
 returns-3 c = third-on _ _ _ _ _ _ (c .before .before .before .before .before .read-byte .ensures) _ _ _ (c .before .before .before .g .given .1) (c .before .next-of .ensures) (c .if1 .left)
 
 pub lead-third-spec : {M : Type 1} → statement M
-lead-third-spec = tie.close (tie.spec (λ c κs. search needs) (λ c. search needs) (λ c κs. search needs) returns (λ c κs. search needs) (λ c. search needs) (λ c κs. search needs) returns-2 (λ c. search needs) returns-3)
+lead-third-spec =
+    tie.close
+    (tie.spec (λ c κs. search needs) (λ c. search needs) (λ c κs. search needs) returns (λ c κs. search needs) (λ c. search needs) (λ c κs. search needs) returns-2 (λ c. search needs) returns-3)
