@@ -94,7 +94,8 @@ pub fn msr(m: Machine) -> u32 {
 }
 
 pub fn number(e: Event) -> u32 {
-    image::event_number(e) as u32
+    let n = events::event_numbers(e);
+    n.number as u32
 }
 
 fn stop_carries(s: Stop) -> u32 {

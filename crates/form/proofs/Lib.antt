@@ -1,3 +1,4 @@
+pub mod Accepted
 pub mod Facts
 pub mod Tests
 pub mod RoundTrip

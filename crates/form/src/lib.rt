@@ -77,7 +77,7 @@ const WIDTHS: [u8; 56] = [
 
 const VERSION: u16 = 1;
 
-const LENGTH: usize = 101;
+pub const LENGTH: usize = 101;
 
 const MOST_FRAMES: u16 = 16;
 

@@ -18,11 +18,13 @@ use Rattle.host.specs.declared.Ran.{Ran}
 use Rattle.host.specs.Host.{ran, runOf}
 use Rattle.image.specs.declared.Shown.{Shown}
 use Rattle.image.specs.declared.Shown.the-variants.{Refused, Ended}
-use Rattle.image.specs.Image.{eventNumber, outcome, worked, answered, shownOf}
+use Rattle.events.specs.declared.Numbered.{Numbered}
+use Rattle.events.specs.Events.{eventNumbers}
+use Rattle.image.specs.Image.{outcome, worked, answered, shownOf}
 
 module _ (m : Machine) (f : ℕ) (w : List ℕ) where
-  pub run-ended : (r : Ran) (new : List ℕ) (k : ℕ) → length w ≡ f * 4096 → ran r new ≡ runOf m w 1000 → k ≡ eventNumber (eventOf (r .event)) →
-      outcome (Ended k (r .steps) (r .machine .regs .pc)) new ≡ worked m f w
+  pub run-ended : (r : Ran) (new : List ℕ) (k : Numbered) → length w ≡ f * 4096 → ran r new ≡ runOf m w 1000 → k ≡ eventNumbers (eventOf (r .event)) →
+      outcome (Ended (k .number) (r .steps) (r .machine .regs .pc)) new ≡ worked m f w
   unfolding worked
   run-ended r new k h p e = rw (eq-eqb (length w) (f * 4096) h, ← p, e)
 

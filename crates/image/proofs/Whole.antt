@@ -1,19 +1,18 @@
 -- The first 65,638 bytes of an input decide what is shown; the run of an accepted form with exactly its frames is not refused; each
 -- promise determines its answer and every byte.
-use Prim.Native.Nat.{ℕ, _+_, _-_, _*_, _/_, _%_, _<_, _≤_}
+use Prim.Native.Nat.{ℕ, _-_, _*_, _<_, _≤_}
 use mathlib.Core.Path.{_≡_, refl, sym, _∙_, ap}
-use mathlib.Core.Bool.{Bool, true, false, cond, not}
+use mathlib.Core.Bool.{Bool, true, false}
 use mathlib.Core.List.{List}
 use native.Mathlib.Omega.{arith}
-use borrow.Author.Tests.{leb-true, leb-false, le-leb, eqb-true, ne-eqb}
-use lib.Dec.{leb, eqb, lit<}
-use lib.ListN.{length, take, drop, getD, length-drop}
+use borrow.Author.Tests.{leb-true, leb-false, eqb-true, ne-eqb}
+use lib.Dec.{leb, eqb}
+use lib.ListN.{length, take, drop, length-drop}
 use lib.Seq.{take-all, take-take, length-take-le}
 use Rattle.regs.specs.declared.Machine.{Machine}
-use Rattle.pack.specs.Pack.{unpack}
-use Rattle.legal.specs.Legal.{wholeFrames, allowedBits}
 use Rattle.form.specs.declared.Restored.{Restored}
-use Rattle.form.specs.Form.{widths, machineOf, framesOf, refused, restored, readFields, readForm}
+use Rattle.form.specs.Form.{readForm}
+use Rattle.form.proofs.Accepted.{Accepted, accepted, whole}
 use Rattle.host.specs.Host.{refusalOf, runOf}
 use Rattle.image.specs.declared.Shown.{Shown}
 use Rattle.image.specs.declared.Shown.the-variants.{Refused}
@@ -22,40 +21,6 @@ use Rattle.image.specs.Line.{Spells}
 use Rattle.image.specs.Image.{Outcome, outcome, worked, answered, shownOf}
 
 -- ---- an accepted form
-
-pub record Accepted (r : Restored) : Type 0 where
-  pub some : 1 ≤ r .frames
-  pub few : r .frames ≤ 16
-  pub allowed : allowedBits (r .machine) ≡ true
-
-refusing : (n : ℕ) (r : Restored) → r ≡ refused n → 0 < n → r .refusal ≡ 0 → Accepted r
-unfolding refused
-refusing n r e l z = absurd (omega (arith, sym (ap (λ (x : Restored). x .refusal) e) ∙ z))
-
--- each test passed
-passed : (k a b c d : Bool) (v : List ℕ) → leb (framesOf v) 16 ≡ b → allowedBits (machineOf v) ≡ c →
-    (r : Restored) → r ≡ cond (not k) (refused 3) (cond (not a) (refused 4) (cond (not b) (refused 10) (cond (not c) (refused 2) (cond (not d) (refused 5) (restored v))))) →
-    r .refusal ≡ 0 → Accepted r
-unfolding restored
-passed true true true true true v f m r e z =
-    rw e (record { some = omega arith; few = leb-true (framesOf v) 16 f; allowed = m })
-passed true true true true false v f m r e z = refusing 5 r e (lit< tt) z
-passed true true true false d v f m r e z = refusing 2 r e (lit< tt) z
-passed true true false c d v f m r e z = refusing 10 r e (lit< tt) z
-passed true false b c d v f m r e z = refusing 4 r e (lit< tt) z
-passed false a b c d v f m r e z = refusing 3 r e (lit< tt) z
-
-pub accepted : (t : List ℕ) → readForm t .refusal ≡ 0 → Accepted (readForm t)
-unfolding readForm readFields
-accepted t z =
-    let v : List ℕ = unpack widths t in
-    passed (eqb (length t) 101) (eqb (getD v 0 0) 1) (leb (framesOf v) 16) (allowedBits (machineOf v)) (eqb (getD v 55 0) 0) v refl refl _ refl z
-
-whole : (f : ℕ) → 1 ≤ f → f ≤ 16 → wholeFrames (f * 4096) ≡ true
-whole f l h =
-    let e : f * 4096 % 4096 ≡ 0 = omega arith in
-    let q : f * 4096 / 4096 ≡ f = omega arith in
-    rw (e, q, le-leb 1 f l, le-leb f 16 h)
 
 pub not-refused : (t w : List ℕ) → readForm t .refusal ≡ 0 → length w ≡ readForm t .frames * 4096 →
     (runOf (readForm t .machine) w 1000) .refusal ≡ 0
@@ -75,13 +40,13 @@ unfolding worked
 too-much m f w h l = rw (ne-eqb (length w) (f * 4096) (λ e. omega (arith, e)))
 
 -- r is what the form reads as, s and t two inputs that begin with it
-alike : (r : Restored) (s t : List ℕ) → (r .refusal ≡ 0 → Accepted r) → 65536 < length (drop 101 s) → 65536 < length (drop 101 t) →
+alike : (long : Bool) (r : Restored) (s t : List ℕ) → (r .refusal ≡ 0 → Accepted long r) → 65536 < length (drop 101 s) → 65536 < length (drop 101 t) →
     (b : Bool) → eqb (r .refusal) 0 ≡ b → answered s 101 r .shown ≡ answered t 101 r .shown
 unfolding answered
-alike r s t ok l k true e =
+alike long r s t ok l k true e =
     let a = ok (eqb-true (r .refusal) 0 e) in
     rw (e, too-much (r .machine) (r .frames) (drop 101 s) (a .few) l, too-much (r .machine) (r .frames) (drop 101 t) (a .few) k)
-alike r s t ok l k false e = rw e
+alike long r s t ok l k false e = rw e
 
 cut : (s : List ℕ) (b : Bool) → leb (length s) enough ≡ b → shownOf (take enough s) .shown ≡ shownOf s .shown
 unfolding shownOf
@@ -92,7 +57,7 @@ cut s false e =
     let i : 65536 < length (drop 101 (take enough s)) = rw (length-drop, n) (omega arith) in
     let j : 65536 < length (drop 101 s) = rw length-drop (omega arith) in
     rw (take-take 101 enough s (omega arith))
-    (alike (readForm (take 101 s)) (take enough s) s (accepted (take 101 s)) i j (eqb (readForm (take 101 s) .refusal) 0) refl)
+    (alike _ (readForm (take 101 s)) (take enough s) s (accepted (take 101 s)) i j (eqb (readForm (take 101 s) .refusal) 0) refl)
 
 pub read-enough : (s : List ℕ) → shownOf (take enough s) .shown ≡ shownOf s .shown
 read-enough s = cut s (leb (length s) enough) refl

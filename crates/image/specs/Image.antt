@@ -1,37 +1,18 @@
--- The printing program's answer to its whole input. Document 01, "Stored form" and the table of events.
+-- The printing program's answer to its whole input. Document 01, "Stored form".
 use Prim.Native.Nat.{ℕ, _*_}
 use mathlib.Core.Bool.{cond}
 use mathlib.Core.List.{List, _++_}
 use lib.Dec.{eqb}
 use lib.ListN.{length, take, drop, getD}
-use Rattle.board.specs.Program as b
 use Rattle.board.specs.Run as n
 use Rattle.regs.specs.declared.Machine.{Machine}
-use Rattle.plan.specs.declared.kinds.Stop.{Stop}
-use Rattle.plan.specs.declared.kinds.Stop.the-variants.{Privileged, Call, Extended, Halted, Break, Port, Nothing}
 use Rattle.bus.specs.Board.{real}
 use Rattle.form.specs.declared.Restored.{Restored}
 use Rattle.form.specs.Form.{formLength, readForm}
+use Rattle.events.specs.Events.{eventNumbers}
 use Rattle.host.specs.Host.{runOf}
 use Rattle.image.specs.declared.Shown.{Shown}
 use Rattle.image.specs.declared.Shown.the-variants.{Refused, Ended}
-
--- ---- events by their numbers
-
-abbrev pub stopNumber : Stop → ℕ
-stopNumber (Privileged a) = 3
-stopNumber (Call operand a) = 4
-stopNumber (Extended a) = 5
-stopNumber Halted = 6
-stopNumber (Break a) = 7
-stopNumber (Port p out) = 8
-stopNumber (Nothing a) = 9
-
-abbrev pub eventNumber : b.Event real → ℕ
-eventNumber b.completed = 0
-eventNumber (b.violation i a) = 1
-eventNumber (b.absent p) = 2
-eventNumber (b.other e) = stopNumber e
 
 -- ---- the answer, with the bytes of the input afterwards
 
@@ -43,7 +24,7 @@ abbrev pub outcome : Shown → List ℕ → Outcome
 outcome r w = record { shown = r; bytes = w }
 
 abbrev pub ended : n.Ran real → Outcome
-ended r = outcome (Ended (eventNumber (r .event)) (r .steps) (r .state .regs .pc)) (r .state .mem)
+ended r = outcome (Ended (eventNumbers (r .event) .number) (r .steps) (r .state .regs .pc)) (r .state .mem)
 
 -- m and f frames are the form's, w all that came after it: missing or extra memory is refusal 1, else 1,000 steps
 unfoldable pub worked : Machine → (f : ℕ) (w : List ℕ) → Outcome

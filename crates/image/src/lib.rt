@@ -2,47 +2,19 @@
 pub mod line;
 
 ghost use mathlib.Core.Path.{_≡_};
-ghost use Rattle.bus.specs.Leave.{eventOf};
-ghost use Rattle.image.specs.Image.{stopNumber, eventNumber, outcome, worked, shownOf};
-use bus::kinds::Event;
-use plan::kinds::Stop;
+ghost use Rattle.image.specs.Image.{outcome, worked, shownOf};
 use regs::Machine;
 
 pub enum Shown {
     // The refusal's number.
     Refused(u8),
     // The event's number, the steps that completed, PC.
-    Ended(u8, u16, u16),
+    Ended(u16, u16, u16),
 }
 
 const FORM: usize = 101;
 
 const STEPS: u16 = 1000;
-
-fn stop_number(s: Stop) -> u8
-    ensures { λ r. ⌜ r ≡ stopNumber s ⌝ }
-{
-    match s {
-        Stop::Privileged(_) => 3,
-        Stop::Call(_, _) => 4,
-        Stop::Extended(_) => 5,
-        Stop::Halted => 6,
-        Stop::Break(_) => 7,
-        Stop::Port(_, _) => 8,
-        Stop::Nothing(_) => 9,
-    }
-}
-
-pub fn event_number(e: Event) -> u8
-    ensures { λ r. ⌜ r ≡ eventNumber (eventOf e) ⌝ }
-{
-    match e {
-        Event::Completed => 0,
-        Event::Violation(_, _) => 1,
-        Event::Absent(_) => 2,
-        Event::Stopped(s) => stop_number(s),
-    }
-}
 
 // The machine of a form with so many frames, run over the memory that came with it.
 fn work(m: Machine, frames: u16, w: &mut [u8]) -> Shown
@@ -53,8 +25,8 @@ fn work(m: Machine, frames: u16, w: &mut [u8]) -> Shown
         let e = a.event;
         let next = a.machine;
         let r = next.regs;
-        let k = event_number(e);
-        Shown::Ended(k, a.steps, r.pc)
+        let k = events::event_numbers(e);
+        Shown::Ended(k.number, a.steps, r.pc)
     } else {
         Shown::Refused(1)
     }

@@ -6,6 +6,7 @@ ghost use Rattle.io.specs.Counts.{Counts};
 ghost use Rattle.pack.specs.Pack.{pasted};
 ghost use Rattle.image.specs.Line.{glyph as Line·glyph, fourHex, fiveDigits, zerosBefore, decimal, Spells, refusedLine, endedLine, lineOf};
 use crate::Shown;
+use pack::put_bytes;
 
 // The first n bytes of text; the longest line has 31.
 pub struct Line {
@@ -66,19 +67,6 @@ fn zeros_before(v: u16) -> usize
     0
 }
 
-// The bytes s over those from index `at` on. Answers the index past them.
-fn put(out: &mut [u8], at: usize, s: &[u8]) -> usize
-    requires { ⌜ at + length (now s) ≤ length (now out) ⌝ }
-    ensures { λ r. ⌜ (r ≡ at + length (now (s .entry))) × (now (out .exit) ≡ pasted (now (out .entry)) at (now (s .entry))) ⌝ }
-{
-    let mut j: usize = 0;
-    while j < s.len() {
-        out[at + j] = s[j];
-        j += 1;
-    }
-    at + s.len()
-}
-
 fn put_decimal(out: &mut [u8], at: usize, v: u16) -> usize
     requires { ⌜ at + 5 ≤ length (now out) ⌝ }
     ensures { λ r. ⌜ (r ≡ at + length (decimal v)) × (now (out .exit) ≡ pasted (now (out .entry)) at (decimal v)) ⌝ }
@@ -86,31 +74,31 @@ fn put_decimal(out: &mut [u8], at: usize, v: u16) -> usize
 {
     let d = five_digits(v);
     let z = zeros_before(v);
-    put(out, at, &d[z..])
+    put_bytes(out, at, &d[z..])
 }
 
 fn refused_line(k: u8) -> Line
     ensures { λ r. ⌜ Spells r (refusedLine k) ⌝ }
 {
     let mut out = [0u8; 32];
-    let a = put(&mut out, 0, b"refused ");
+    let a = put_bytes(&mut out, 0, b"refused ");
     let b = put_decimal(&mut out, a, k as u16);
-    let n = put(&mut out, b, b"\n");
+    let n = put_bytes(&mut out, b, b"\n");
     Line { text: out, n }
 }
 
-fn ended_line(e: u8, n: u16, pc: u16) -> Line
+fn ended_line(e: u16, n: u16, pc: u16) -> Line
     ensures { λ r. ⌜ Spells r (endedLine e n pc) ⌝ }
 {
     let h = four_hex(pc);
     let mut out = [0u8; 32];
-    let a = put(&mut out, 0, b"stop ");
-    let b = put_decimal(&mut out, a, e as u16);
-    let c = put(&mut out, b, b" steps ");
+    let a = put_bytes(&mut out, 0, b"stop ");
+    let b = put_decimal(&mut out, a, e);
+    let c = put_bytes(&mut out, b, b" steps ");
     let d = put_decimal(&mut out, c, n);
-    let f = put(&mut out, d, b" pc ");
-    let g = put(&mut out, f, &h);
-    let z = put(&mut out, g, b"\n");
+    let f = put_bytes(&mut out, d, b" pc ");
+    let g = put_bytes(&mut out, f, &h);
+    let z = put_bytes(&mut out, g, b"\n");
     Line { text: out, n: z }
 }
 

@@ -101,3 +101,16 @@ pub fn copy_into(dst: &mut [u16], k: usize, src: &[u16])
         j += 1;
     }
 }
+
+// The bytes s over those of out from index `at` on; the rest of it stays. Answers the index past them.
+pub fn put_bytes(out: &mut [u8], at: usize, s: &[u8]) -> usize
+    requires { ⌜ at + length (now s) ≤ length (now out) ⌝ }
+    ensures { λ r. ⌜ (r ≡ at + length (now (s .entry))) × (now (out .exit) ≡ pasted (now (out .entry)) at (now (s .entry))) ⌝ }
+{
+    let mut j: usize = 0;
+    while j < s.len() {
+        out[at + j] = s[j];
+        j += 1;
+    }
+    at + s.len()
+}

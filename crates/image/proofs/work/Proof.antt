@@ -5,7 +5,7 @@ use Rattle.image.proofs.work.Statement.{statement}
 use Rattle.image.proofs.work.Tie as tie
 
 returns : tie.Need-returns
-returns c = run-ended _ _ _ _ _ _ (c .before .before .before .before .before .before .before .if1 .taken) (c .before .before .before .before .before .run .ensures) (c .event-number .ensures)
+returns c = run-ended _ _ _ _ _ _ (c .before .before .before .before .before .before .before .if1 .taken) (c .before .before .before .before .before .run .ensures) (c .event-numbers .ensures)
 
 returns-2 : tie.Need-returns-2
 returns-2 c = not-exact _ _ _ (c .if1 .left)

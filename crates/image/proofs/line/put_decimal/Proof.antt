@@ -9,7 +9,7 @@ returns : tie.Need-returns
 returns c =
     let a = c .before .before .before .before .before .before .before .before .before .args in
     let e = digits (a .v) _ _ (c .before .before .before .before .before .before .before .five-digits .ensures) (c .before .before .before .before .before .before .zeros-before .ensures .0) in
-    let p = rw e at (c .before .before .put .ensures) in
+    let p = rw e at (c .before .before .put-bytes .ensures) in
     (p, omega (arith, p .0, few (a .v)))
 
 pub put-decimal-spec : {M : Type 1} → statement M

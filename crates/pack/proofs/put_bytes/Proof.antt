@@ -1,4 +1,4 @@
--- `put`: after j turns the first j bytes of s are pasted.
+-- `put_bytes`: after j turns the first j bytes of s are pasted.
 use borrow.Author.Needs.{needs}
 use native.Mathlib.Omega.{arith}
 use mathlib.Core.Path.{_≡_, refl, _∙_}
@@ -7,8 +7,8 @@ use denote.Ref.{now}
 use lib.Seq.{paste, paste-zero, paste-suc, take-length}
 use native.Mathlib.Numerals.{add-one}
 use lib.ListN.{length, length-set}
-use Rattle.image.proofs.line.put.Statement.{statement}
-use Rattle.image.proofs.line.put.Tie as tie
+use Rattle.pack.proofs.put_bytes.Statement.{statement}
+use Rattle.pack.proofs.put_bytes.Tie as tie
 
 abbrev Inv-loop : tie.InvT-loop
 Inv-loop out₀ at s j₀ out j = (j ≤ length s) × (length out ≡ length out₀) × (out ≡ paste out₀ at s j)
@@ -35,7 +35,7 @@ returns c =
     let e : l .j ≡ length s = omega arith in
     (refl, rw (e, take-length s) at (l .inv .2))
 
-pub put-spec : {M : Type 1} → statement M
-put-spec =
+pub put-bytes-spec : {M : Type 1} → statement M
+put-bytes-spec =
     tie.close
     (tie.spec Inv-loop μ-loop loop-holds (λ c. search needs) (λ c. search needs) (λ c. search needs) (λ c. search needs) (λ c. search needs) loop-again (λ c. search needs) (λ c. search needs) returns)
