@@ -1,10 +1,8 @@
 -- A law for each way out of the public step and run, over plain values.
-use Prim.Native.Nat.{ℕ, zero, suc, _+_}
-use mathlib.Core.Path.{_≡_, refl, sym, _∙_, ap}
-use mathlib.Core.Bool.{Bool, true, false, cond, not}
+use Prim.Native.Nat.{ℕ}
+use mathlib.Core.Path.{_≡_, refl, ap}
+use mathlib.Core.Bool.{true, false, not}
 use mathlib.Core.List.{List}
-use native.Mathlib.Omega.{arith}
-use native.Mathlib.Nat.{add-zero}
 use borrow.Author.Tests.{not-true, not-false, eqb-true}
 use lib.Dec.{eqb}
 use lib.ListN.{length}
@@ -15,9 +13,10 @@ use Rattle.bus.specs.declared.kinds.Event.{Event}
 use Rattle.bus.specs.declared.kinds.Event.the-variants.{Completed}
 use Rattle.bus.specs.Board.{real}
 use Rattle.bus.specs.Leave.{eventOf}
-use Rattle.cpu.specs.declared.kinds.Ran as code
+use Rattle.steps.specs.declared.Ran as code
 use Rattle.cpu.specs.Program.{program}
-use Rattle.cpu.specs.Machine.{machineState, ranOf}
+use Rattle.cpu.specs.Machine.{machineState}
+use Rattle.steps.specs.Ran.{ranOf}
 use Rattle.host.specs.Host.{refusalOf, ran, runOf, stepped, stepOf}
 
 -- a run of one step is that step

@@ -15,6 +15,10 @@ use Rattle.cpu.specs.Machine.{machineState}
 use Rattle.host.specs.declared.Stepped.{Stepped}
 use Rattle.host.specs.declared.Ran.{Ran}
 
+-- the record among what a call leaves
+abbrev pub machineIn : b.State real → Machine
+machineIn s = record { regs = s .regs; ctl = s .ctl; mmu = s .mmu; ds = s .ds }
+
 -- for a memory of n bytes
 unfoldable pub refusalOf : Machine → (n : ℕ) → ℕ
 refusalOf m n = cond (wholeFrames n) (cond (allowedBits m) 0 2) 1

@@ -3,8 +3,8 @@ ghost use mathlib.Core.Path.{_≡_};
 ghost use lib.ListN.{length};
 ghost use Rattle.host.specs.Host.{refusalOf, stepped, stepOf, ran, runOf};
 use bus::kinds::Event;
-use cpu::steps::run_steps;
 use regs::Machine;
+use steps::run_steps;
 
 // A step's answer: 0 or the refusal's number, the machine, the event.
 pub struct Stepped {

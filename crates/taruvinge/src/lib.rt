@@ -1,6 +1,6 @@
-// The machine's public face: every public call and type. A call refuses by a number of document 01 (0: none), in the order that is given
-// here; a refused call changes no lent byte and hands the record back as it was, where nothing else is said.
-mod c;
+// The machine's public face for Rattle (that for C is crate `z280`): every public call and type. A call refuses by a number of document
+// 01 (0: none), in the order that is given here; a refused call changes no lent byte and hands the record back as it was, where nothing
+// else is said.
 
 // The machine record: registers, control registers, MMU control, 32 page descriptors.
 pub use regs::Machine;
@@ -39,5 +39,3 @@ pub use deliver::make_valid;
 pub use form::write_form;
 // Reads a stored form. Refusals 3, 4, 10, 2, 5; refused, it gives the reset record and one frame.
 pub use form::read_form;
-// For C: reads a stored form, runs, writes it back in place. Refusals 3, 4, 10, 2, 5 of the reader, then 1, 2 of the run; refused, event 0.
-pub use c::taruvinge_run;

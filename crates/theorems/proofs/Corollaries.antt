@@ -19,13 +19,13 @@ use Rattle.bus.specs.declared.kinds.Event.{Event}
 use Rattle.bus.specs.Board.{real}
 use Rattle.cpu.specs.Machine.{machineState}
 use Rattle.host.specs.Host as host
-use Rattle.host.specs.Host.{refusalOf, runOf, stepOf}
+use Rattle.host.specs.Host.{machineIn, refusalOf, runOf, stepOf}
 use Rattle.deliver.specs.declared.traps.Trap.{Trap}
 use Rattle.deliver.specs.declared.traps.Trap.the-variants.{Two, Three, Undelivered}
 use Rattle.deliver.specs.Deliver.{Outcome, refusal, trapOf, pushed, allPassed, wordAt, entered, vectored, saved, taken, deliverOf}
 use Rattle.deliver.specs.Valid.{unmade, madeValid, makeValid}
 use Rattle.form.specs.Form.{widths, machineOf, framesOf, readFields, readForm, refused, restored}
-use Rattle.theorems.specs.Withhold.{machineIn, withheld, Withheld, hosted, Alike}
+use Rattle.theorems.specs.Withhold.{withheld, Withheld, hosted, Alike}
 use Rattle.theorems.specs.Runs.{followed}
 use Rattle.theorems.specs.Corollaries.{SameBytes, Same, Whichever, OnceEach, total, inPieces, CutAnywhere, NeverTwo}
 use Rattle.theorems.proofs.Allowed.{Fine, allowed-parts, parts-allowed, msr-fine}

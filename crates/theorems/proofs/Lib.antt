@@ -1,6 +1,7 @@
-pub mod Back
 pub mod Allowed
+pub mod Below
 pub mod Corollaries
+pub mod ForC
 pub mod Known
 pub mod Lasting
 pub mod Once

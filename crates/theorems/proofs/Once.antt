@@ -3,15 +3,13 @@ use Prim.Native.Nat.{ℕ}
 use mathlib.Core.Path.{_≡_, refl, sym, _∙_, ap}
 use mathlib.Core.List.{List}
 use Rattle.board.specs.Program as b
-use Rattle.board.specs.Run as n
-use Rattle.regs.specs.declared.Machine.{Machine}
 use Rattle.bus.specs.declared.kinds.Event.{Event}
 use Rattle.bus.specs.declared.kinds.Event.the-variants.{Completed, Violation, Absent, Stopped}
 use Rattle.bus.specs.Board.{real}
 use Rattle.bus.specs.Leave.{eventOf}
 use Rattle.host.specs.declared.Stepped.{Stepped}
 use Rattle.host.specs.declared.Ran.{Ran}
-use Rattle.host.specs.Host.{StepOutcome, stepped, Outcome, ran}
+use Rattle.host.specs.Host.{machineIn, StepOutcome, stepped, Outcome, ran}
 use Rattle.deliver.specs.Deliver as d
 use Rattle.theorems.specs.Once.{Determined}
 
@@ -27,9 +25,6 @@ event-back Completed = refl
 event-back (Violation i a) = refl
 event-back (Absent p) = refl
 event-back (Stopped e) = refl
-
-abbrev machineIn : b.State real → Machine
-machineIn s = record { regs = s .regs; ctl = s .ctl; mmu = s .mmu; ds = s .ds }
 
 step-in : StepOutcome → Stepped
 step-in o = record { refusal = o .refusal; machine = machineIn (o .answer .state); event = eventIn (o .answer .event) }

@@ -16,9 +16,8 @@ use Rattle.regs.specs.declared.Machine.{Machine}
 use Rattle.bus.specs.Board.{real}
 use Rattle.cpu.specs.Program.{program}
 use Rattle.cpu.specs.Machine.{machineState}
-use Rattle.host.specs.Host.{refusalOf, Outcome, runOf, StepOutcome, stepOf}
+use Rattle.host.specs.Host.{machineIn, refusalOf, Outcome, runOf, StepOutcome, stepOf}
 use Rattle.form.proofs.RoundTrip.{written-reads, read-writes}
-use Rattle.theorems.specs.Withhold.{machineIn}
 use Rattle.theorems.specs.Runs.{countOf, asRun, joined, onward, followed, stepping, Demand2}
 use Rattle.theorems.proofs.Works.{run-refusal, run-works, step-works, run-allowed, run-refused, step-refused}
 

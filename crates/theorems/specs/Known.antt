@@ -12,9 +12,9 @@ use Rattle.products.specs.Known.{P10}
 use Rattle.board.specs.Program.{completed, violation}
 use Rattle.regs.specs.declared.Machine.{Machine}
 use Rattle.regs.specs.Select.{userOf}
-use Rattle.host.specs.Host.{refusalOf, StepOutcome, stepOf}
+use Rattle.host.specs.Host.{machineIn, refusalOf, StepOutcome, stepOf}
 use Rattle.deliver.specs.Valid.{makeValid}
-use Rattle.theorems.specs.Withhold.{machineIn, withheld}
+use Rattle.theorems.specs.Withhold.{withheld}
 
 -- where page d has the byte of a logical address, not separated
 abbrev pub byteIn : (d a : ℕ) → ℕ

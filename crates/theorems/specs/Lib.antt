@@ -1,5 +1,5 @@
-pub mod Back
 pub mod Corollaries
+pub mod ForC
 pub mod Known
 pub mod Once
 pub mod Refusals

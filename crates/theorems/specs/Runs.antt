@@ -15,9 +15,8 @@ use Rattle.legal.specs.Held.{Held}
 use Rattle.bus.specs.Board.{real}
 use Rattle.cpu.specs.Program.{program}
 use Rattle.cpu.specs.Machine.{machineState}
-use Rattle.host.specs.Host.{refusalOf, Outcome, runOf, StepOutcome, stepOf}
+use Rattle.host.specs.Host.{machineIn, refusalOf, Outcome, runOf, StepOutcome, stepOf}
 use Rattle.form.specs.Form.{writeRefusal, written, readForm}
-use Rattle.theorems.specs.Withhold.{machineIn}
 
 -- ── one call after another ──
 

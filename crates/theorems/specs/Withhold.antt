@@ -13,13 +13,9 @@ use Rattle.board.specs.Withhold.{has, without, clearAll, named, Paged, stopped,
 use Rattle.regs.specs.declared.Machine.{Machine}
 use Rattle.bus.specs.Board.{real}
 use Rattle.cpu.specs.Machine.{machineState}
-use Rattle.host.specs.Host.{Outcome, runOf, stepOf}
+use Rattle.host.specs.Host.{machineIn, Outcome, runOf, stepOf}
 use Rattle.deliver.specs.declared.Made.{Made}
 use Rattle.deliver.specs.Valid.{makeValid}
-
--- the record among what a call leaves
-abbrev pub machineIn : State real → Machine
-machineIn s = record { regs = s .regs; ctl = s .ctl; mmu = s .mmu; ds = s .ds }
 
 -- "clear the valid marks of any w user descriptors that had them"
 abbrev pub withheld : List ℕ → Machine → Machine
