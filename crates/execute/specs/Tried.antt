@@ -1,4 +1,4 @@
--- Execution with the exchanges left out: EX AF,AF' (37), EXX (38).
+-- Execution without the four that have to do with the alternate registers: EX AF,AF' (37), EXX (38), JAF (104), JAR (105).
 use Prim.Native.Nat.{ℕ, _+_, _-_}
 use mathlib.Core.Bool.{Bool, true, false, cond, _||_}
 use lib.Dec.{eqb, ltb}
@@ -10,9 +10,9 @@ use Rattle.plan.specs.Kinds.{quiet}
 use Rattle.execute.specs.declared.Tried.{Tried}
 use Rattle.execute.specs.Execute.{executeBy}
 
--- whether an operation exchanges with the alternate registers
+-- whether an operation is one of them
 unfoldable pub swaps : (op : ℕ) → Bool
-swaps op = eqb op 37 || eqb op 38
+swaps op = eqb op 37 || eqb op 38 || eqb op 104 || eqb op 105
 
 abbrev pub workedOut : Done → Tried
 workedOut d = record { known = true; done = d }

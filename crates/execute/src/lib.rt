@@ -1,5 +1,6 @@
 // The work of an operation, by its number. One flat match: so the whole of it can be drawn into the run's loop.
-// EX AF,AF' and EXX stand apart: so the alternate registers never change in that loop.
+// The four that have to do with the alternate registers stand apart: EX AF,AF' and EXX, so that those registers never change in that
+// loop, and JAF and JAR, so that the bank bits aren't looked at there.
 ghost use mathlib.Core.Path.{_≡_};
 ghost use mathlib.Core.Bool.{Bool, true};
 ghost use Prim.Native.Nat.{ℕ};
@@ -13,7 +14,7 @@ use plan::kinds::Spot;
 use plan::kinds::still;
 use regs::Regs;
 
-// What an operation came to; `known` is false for an exchange, which is left for `swap`.
+// What an operation came to; `known` is false for one of those four, which is left for `swap`.
 pub struct Tried {
     pub known: bool,
     pub done: Done,
@@ -119,8 +120,8 @@ fn execute_by(k: u8, r: Regs, u: bool, i: Ins, s: Spot, v: u32) -> Tried
         77 => worked_out(jump::call_cc(r, u, i, s)),
         78 => worked_out(jump::ccf(r)),
         79 => worked_out(jump::djnz(r, i)),
-        80 => worked_out(jump::jaf(r, i)),
-        81 => worked_out(jump::jar(r, i)),
+        80 => left_for_swap(r),
+        81 => left_for_swap(r),
         82 => worked_out(jump::jp(r, s)),
         83 => worked_out(jump::jp_cc(r, i, s)),
         84 => worked_out(jump::jp_xx(r, i)),
@@ -152,7 +153,7 @@ fn regs_of(d: Done) -> Regs
     d.regs
 }
 
-// The registers after EX AF,AF' or EXX, which write nothing.
+// The registers after EX AF,AF', EXX, JAF or JAR, which write nothing.
 pub fn swap(r: Regs, i: Ins) -> Regs
     ensures { λ x. ⌜ (swaps (i .op) ≡ true → (u : Bool) (s : Spot) (v : ℕ) → quiet x ≡ executeOf r u i s v) ⌝ }
 {
@@ -160,6 +161,8 @@ pub fn swap(r: Regs, i: Ins) -> Regs
     match op {
         37 => regs_of(load16::exchange::ex_af(r)),
         38 => regs_of(load16::exchange::exx(r)),
+        104 => regs_of(jump::jaf(r, i)),
+        105 => regs_of(jump::jar(r, i)),
         _ => r,
     }
 }

@@ -1,6 +1,6 @@
 // The memory unit: MMU control, 32 page descriptors, and translation of logical to physical addresses.
 ghost use mathlib.Core.Path.{_≡_};
-ghost use Prim.Native.Nat.{_<_, _≤_, _%_};
+ghost use Prim.Native.Nat.{_+_, _<_, _≤_, _%_};
 ghost use mathlib.Core.Bool.{cond};
 ghost use lib.ListN.{getD};
 ghost use Rattle.mmu.specs.Translate.{modeBits, barred, index, numberOf, physical, byDescriptor, placed, marked, valid, setModified, setValid, change, latched};
@@ -51,13 +51,20 @@ fn first_of(user: bool) -> u8
     if user { 0 } else { 16 }
 }
 
+fn page_of(apart: bool, user: bool, program: bool, a: u16) -> u8
+    ensures { λ r. ⌜ r ≡ cond user 0 16 + index apart program a ⌝ }
+    ensures { λ r. ⌜ r < 32 ⌝ }
+{
+    let k = index_of(apart, program, a);
+    first_of(user) + k
+}
+
 fn number_of(bits: u8, user: bool, program: bool, a: u16) -> u8
     ensures { λ r. ⌜ r ≡ numberOf bits user program a ⌝ }
     ensures { λ r. ⌜ r < 32 ⌝ }
 {
     let apart = bits % 2 == 1;
-    let k = index_of(apart, program, a);
-    first_of(user) + k
+    page_of(apart, user, program, a)
 }
 
 fn is_barred(write: bool, d: u16) -> bool
@@ -92,19 +99,28 @@ fn by_descriptor(apart: bool, n: u8, d: u16, write: bool, a: u16) -> Place
     }
 }
 
+fn by_page(apart: bool, user: bool, ds: &[u16; 32], program: bool, write: bool, a: u16) -> Place
+    ensures { λ r. ⌜ r ≡ byDescriptor apart (cond user 0 16 + index apart program a) (getD (now (ds .entry)) (cond user 0 16 + index apart program a) 0) write a ⌝ }
+{
+    let n = page_of(apart, user, program, a);
+    let i = n as usize;
+    let d = ds[i];
+    by_descriptor(apart, n, d, write, a)
+}
+
+// Each way of choosing pages is called for by itself: where `apart` is known, an address is a shift and a mask.
 pub fn translate(bits: u8, user: bool, ds: &[u16; 32], program: bool, write: bool, a: u16) -> Place
     ensures { λ r. ⌜ r ≡ placed bits user (now (ds .entry)) program write a ⌝ }
 {
     let on = bits / 2 % 2 == 1;
     if on {
-        let n = number_of(bits, user, program, a);
-        let i = n as usize;
-        let d = ds[i];
         let apart = bits % 2 == 1;
-        by_descriptor(apart, n, d, write, a)
-    } else {
-        Place::At(a as u64)
+        if apart {
+            return by_page(true, user, ds, program, write, a);
+        }
+        return by_page(false, user, ds, program, write, a);
     }
+    Place::At(a as u64)
 }
 
 fn modified_of(d: u16) -> u16

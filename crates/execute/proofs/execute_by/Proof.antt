@@ -2,9 +2,9 @@
 use Rattle.execute.specs.Tried.{triedBy}
 use Rattle.execute.specs.Execute.{executeBy}
 use Rattle.execute.specs.Tried.{swaps}
+use mathlib.Core.Path.{refl, _∙_}
 use Rattle.execute.proofs.Swaps.{arm, far}
 use Rattle.sums.proofs.Past.{past}
-use mathlib.Core.Path.{refl, _∙_}
 use borrow.Author.Needs.{needs}
 use Rattle.execute.proofs.execute_by.Statement.{statement}
 use Rattle.execute.proofs.execute_by.Tie as tie
@@ -331,56 +331,56 @@ returns-80 c = arm 79 _ _ _ _ _ _ _ _ _ (c .worked-out78 .ensures) (c .before .d
 
 returns-81 : tie.Need-returns-81
 unfolding triedBy executeBy swaps
-returns-81 c = arm 80 _ _ _ _ _ _ _ _ _ (c .worked-out79 .ensures) (c .before .jaf .ensures) (c .before .before .match .keys81) refl
+returns-81 c = simp (← c .left-for-swap3 .ensures, c .before .match .keys81)
 
 returns-82 : tie.Need-returns-82
 unfolding triedBy executeBy swaps
-returns-82 c = arm 81 _ _ _ _ _ _ _ _ _ (c .worked-out80 .ensures) (c .before .jar .ensures) (c .before .before .match .keys82) refl
+returns-82 c = simp (← c .left-for-swap4 .ensures, c .before .match .keys82)
 
 returns-83 : tie.Need-returns-83
 unfolding triedBy executeBy swaps
-returns-83 c = arm 82 _ _ _ _ _ _ _ _ _ (c .worked-out81 .ensures) (c .before .jp .ensures) (c .before .before .match .keys83) refl
+returns-83 c = arm 82 _ _ _ _ _ _ _ _ _ (c .worked-out79 .ensures) (c .before .jp .ensures) (c .before .before .match .keys83) refl
 
 returns-84 : tie.Need-returns-84
 unfolding triedBy executeBy swaps
-returns-84 c = arm 83 _ _ _ _ _ _ _ _ _ (c .worked-out82 .ensures) (c .before .jp-cc .ensures) (c .before .before .match .keys84) refl
+returns-84 c = arm 83 _ _ _ _ _ _ _ _ _ (c .worked-out80 .ensures) (c .before .jp-cc .ensures) (c .before .before .match .keys84) refl
 
 returns-85 : tie.Need-returns-85
 unfolding triedBy executeBy swaps
-returns-85 c = arm 84 _ _ _ _ _ _ _ _ _ (c .worked-out83 .ensures) (c .before .jp-xx .ensures) (c .before .before .match .keys85) refl
+returns-85 c = arm 84 _ _ _ _ _ _ _ _ _ (c .worked-out81 .ensures) (c .before .jp-xx .ensures) (c .before .before .match .keys85) refl
 
 returns-86 : tie.Need-returns-86
 unfolding triedBy executeBy swaps
-returns-86 c = arm 85 _ _ _ _ _ _ _ _ _ (c .worked-out84 .ensures) (c .before .jr .ensures) (c .before .before .match .keys86) refl
+returns-86 c = arm 85 _ _ _ _ _ _ _ _ _ (c .worked-out82 .ensures) (c .before .jr .ensures) (c .before .before .match .keys86) refl
 
 returns-87 : tie.Need-returns-87
 unfolding triedBy executeBy swaps
-returns-87 c = arm 86 _ _ _ _ _ _ _ _ _ (c .worked-out85 .ensures) (c .before .jr-cc .ensures) (c .before .before .match .keys87) refl
+returns-87 c = arm 86 _ _ _ _ _ _ _ _ _ (c .worked-out83 .ensures) (c .before .jr-cc .ensures) (c .before .before .match .keys87) refl
 
 returns-88 : tie.Need-returns-88
 unfolding triedBy executeBy swaps
-returns-88 c = arm 87 _ _ _ _ _ _ _ _ _ (c .worked-out86 .ensures) (c .before .ret .ensures) (c .before .before .match .keys88) refl
+returns-88 c = arm 87 _ _ _ _ _ _ _ _ _ (c .worked-out84 .ensures) (c .before .ret .ensures) (c .before .before .match .keys88) refl
 
 returns-89 : tie.Need-returns-89
 unfolding triedBy executeBy swaps
-returns-89 c = arm 88 _ _ _ _ _ _ _ _ _ (c .worked-out87 .ensures) (c .before .ret-cc .ensures) (c .before .before .match .keys89) refl
+returns-89 c = arm 88 _ _ _ _ _ _ _ _ _ (c .worked-out85 .ensures) (c .before .ret-cc .ensures) (c .before .before .match .keys89) refl
 
 returns-90 : tie.Need-returns-90
 unfolding triedBy executeBy swaps
-returns-90 c = arm 89 _ _ _ _ _ _ _ _ _ (c .worked-out88 .ensures) (c .before .rst .ensures) (c .before .before .match .keys90) refl
+returns-90 c = arm 89 _ _ _ _ _ _ _ _ _ (c .worked-out86 .ensures) (c .before .rst .ensures) (c .before .before .match .keys90) refl
 
 returns-91 : tie.Need-returns-91
 unfolding triedBy executeBy swaps
-returns-91 c = arm 90 _ _ _ _ _ _ _ _ _ (c .worked-out89 .ensures) (c .before .scf .ensures) (c .before .before .match .keys91) refl
+returns-91 c = arm 90 _ _ _ _ _ _ _ _ _ (c .worked-out87 .ensures) (c .before .scf .ensures) (c .before .before .match .keys91) refl
 
 returns-92 : tie.Need-returns-92
 unfolding triedBy executeBy swaps
-returns-92 c = arm 91 _ _ _ _ _ _ _ _ _ (c .worked-out90 .ensures) (c .before .nop .ensures) (c .before .before .match .keys92) refl
+returns-92 c = arm 91 _ _ _ _ _ _ _ _ _ (c .worked-out88 .ensures) (c .before .nop .ensures) (c .before .before .match .keys92) refl
 
 returns-93 : tie.Need-returns-93
-returns-93 c = (c .worked-out91 .ensures) ∙ rw (c .before .still .ensures) (far _ _ _ _ _ _ (past 92 (c .before .before .before .args .k) (c .before .before .match .rest)))
+returns-93 c = (c .worked-out89 .ensures) ∙ rw (c .before .still .ensures) (far _ _ _ _ _ _ (past 92 (c .before .before .before .args .k) (c .before .before .match .rest)))
 
 pub execute-by-spec : {M : Type 1} → statement M
 execute-by-spec =
     tie.close
-    (tie.spec (λ c κs. search needs) (λ c κs. search needs) (λ c κs. search needs) (λ c κs. search needs) (λ c κs. search needs) (λ c κs. search needs) (λ c κs. search needs) (λ c κs. search needs) (λ c κs. search needs) (λ c κs. search needs) (λ c κs. search needs) (λ c κs. search needs) (λ c κs. search needs) (λ c κs. search needs) (λ c κs. search needs) (λ c κs. search needs) (λ c κs. search needs) (λ c κs. search needs) (λ c κs. search needs) (λ c κs. search needs) (λ c κs. search needs) (λ c κs. search needs) (λ c κs. search needs) (λ c κs. search needs) (λ c κs. search needs) (λ c κs. search needs) (λ c κs. search needs) (λ c κs. search needs) (λ c κs. search needs) (λ c κs. search needs) (λ c κs. search needs) (λ c κs. search needs) (λ c κs. search needs) (λ c κs. search needs) (λ c κs. search needs) (λ c κs. search needs) (λ c κs. search needs) (λ c κs. search needs) (λ c κs. search needs) (λ c κs. search needs) (λ c κs. search needs) (λ c κs. search needs) (λ c κs. search needs) (λ c κs. search needs) (λ c κs. search needs) (λ c κs. search needs) (λ c κs. search needs) (λ c κs. search needs) (λ c κs. search needs) (λ c κs. search needs) (λ c κs. search needs) (λ c κs. search needs) (λ c κs. search needs) (λ c κs. search needs) (λ c κs. search needs) (λ c κs. search needs) (λ c κs. search needs) (λ c κs. search needs) (λ c κs. search needs) (λ c κs. search needs) (λ c κs. search needs) (λ c κs. search needs) (λ c κs. search needs) (λ c κs. search needs) (λ c κs. search needs) (λ c κs. search needs) (λ c κs. search needs) (λ c κs. search needs) (λ c κs. search needs) (λ c κs. search needs) (λ c κs. search needs) (λ c κs. search needs) (λ c κs. search needs) (λ c κs. search needs) (λ c κs. search needs) (λ c κs. search needs) (λ c κs. search needs) (λ c κs. search needs) (λ c κs. search needs) (λ c κs. search needs) (λ c κs. search needs) (λ c κs. search needs) (λ c κs. search needs) (λ c κs. search needs) (λ c κs. search needs) (λ c κs. search needs) (λ c κs. search needs) (λ c κs. search needs) (λ c κs. search needs) (λ c κs. search needs) (λ c κs. search needs) (λ c κs. search needs) (λ c κs. search needs) (λ c κs. search needs) (λ c κs. search needs) (λ c κs. search needs) (λ c κs. search needs) (λ c κs. search needs) (λ c κs. search needs) (λ c κs. search needs) (λ c κs. search needs) (λ c κs. search needs) (λ c κs. search needs) (λ c κs. search needs) (λ c κs. search needs) (λ c κs. search needs) (λ c κs. search needs) (λ c κs. search needs) (λ c κs. search needs) (λ c κs. search needs) (λ c κs. search needs) (λ c κs. search needs) (λ c κs. search needs) (λ c κs. search needs) (λ c κs. search needs) (λ c κs. search needs) (λ c κs. search needs) (λ c κs. search needs) (λ c κs. search needs) (λ c κs. search needs) (λ c κs. search needs) (λ c κs. search needs) (λ c κs. search needs) (λ c κs. search needs) (λ c κs. search needs) (λ c κs. search needs) (λ c κs. search needs) (λ c κs. search needs) (λ c κs. search needs) (λ c κs. search needs) (λ c κs. search needs) (λ c κs. search needs) (λ c κs. search needs) (λ c κs. search needs) (λ c κs. search needs) (λ c κs. search needs) (λ c κs. search needs) (λ c κs. search needs) (λ c κs. search needs) (λ c κs. search needs) (λ c κs. search needs) (λ c κs. search needs) (λ c κs. search needs) (λ c κs. search needs) (λ c κs. search needs) (λ c κs. search needs) (λ c κs. search needs) (λ c κs. search needs) (λ c κs. search needs) (λ c κs. search needs) (λ c κs. search needs) (λ c κs. search needs) (λ c κs. search needs) (λ c κs. search needs) (λ c κs. search needs) (λ c κs. search needs) (λ c κs. search needs) (λ c κs. search needs) (λ c κs. search needs) (λ c κs. search needs) (λ c κs. search needs) (λ c κs. search needs) (λ c κs. search needs) (λ c κs. search needs) (λ c κs. search needs) (λ c κs. search needs) (λ c κs. search needs) (λ c κs. search needs) (λ c κs. search needs) (λ c κs. search needs) (λ c κs. search needs) (λ c κs. search needs) (λ c κs. search needs) (λ c κs. search needs) (λ c κs. search needs) (λ c κs. search needs) (λ c κs. search needs) (λ c κs. search needs) (λ c κs. search needs) (λ c κs. search needs) (λ c κs. search needs) (λ c κs. search needs) (λ c κs. search needs) (λ c κs. search needs) returns returns-2 returns-3 returns-4 returns-5 returns-6 returns-7 returns-8 returns-9 returns-10 returns-11 returns-12 returns-13 returns-14 returns-15 returns-16 returns-17 returns-18 returns-19 returns-20 returns-21 returns-22 returns-23 returns-24 returns-25 returns-26 returns-27 returns-28 returns-29 returns-30 returns-31 returns-32 returns-33 returns-34 returns-35 returns-36 returns-37 returns-38 returns-39 returns-40 returns-41 returns-42 returns-43 returns-44 returns-45 returns-46 returns-47 returns-48 returns-49 returns-50 returns-51 returns-52 returns-53 returns-54 returns-55 returns-56 returns-57 returns-58 returns-59 returns-60 returns-61 returns-62 returns-63 returns-64 returns-65 returns-66 returns-67 returns-68 returns-69 returns-70 returns-71 returns-72 returns-73 returns-74 returns-75 returns-76 returns-77 returns-78 returns-79 returns-80 returns-81 returns-82 returns-83 returns-84 returns-85 returns-86 returns-87 returns-88 returns-89 returns-90 returns-91 returns-92 returns-93)
+    (tie.spec (λ c κs. search needs) (λ c κs. search needs) (λ c κs. search needs) (λ c κs. search needs) (λ c κs. search needs) (λ c κs. search needs) (λ c κs. search needs) (λ c κs. search needs) (λ c κs. search needs) (λ c κs. search needs) (λ c κs. search needs) (λ c κs. search needs) (λ c κs. search needs) (λ c κs. search needs) (λ c κs. search needs) (λ c κs. search needs) (λ c κs. search needs) (λ c κs. search needs) (λ c κs. search needs) (λ c κs. search needs) (λ c κs. search needs) (λ c κs. search needs) (λ c κs. search needs) (λ c κs. search needs) (λ c κs. search needs) (λ c κs. search needs) (λ c κs. search needs) (λ c κs. search needs) (λ c κs. search needs) (λ c κs. search needs) (λ c κs. search needs) (λ c κs. search needs) (λ c κs. search needs) (λ c κs. search needs) (λ c κs. search needs) (λ c κs. search needs) (λ c κs. search needs) (λ c κs. search needs) (λ c κs. search needs) (λ c κs. search needs) (λ c κs. search needs) (λ c κs. search needs) (λ c κs. search needs) (λ c κs. search needs) (λ c κs. search needs) (λ c κs. search needs) (λ c κs. search needs) (λ c κs. search needs) (λ c κs. search needs) (λ c κs. search needs) (λ c κs. search needs) (λ c κs. search needs) (λ c κs. search needs) (λ c κs. search needs) (λ c κs. search needs) (λ c κs. search needs) (λ c κs. search needs) (λ c κs. search needs) (λ c κs. search needs) (λ c κs. search needs) (λ c κs. search needs) (λ c κs. search needs) (λ c κs. search needs) (λ c κs. search needs) (λ c κs. search needs) (λ c κs. search needs) (λ c κs. search needs) (λ c κs. search needs) (λ c κs. search needs) (λ c κs. search needs) (λ c κs. search needs) (λ c κs. search needs) (λ c κs. search needs) (λ c κs. search needs) (λ c κs. search needs) (λ c κs. search needs) (λ c κs. search needs) (λ c κs. search needs) (λ c κs. search needs) (λ c κs. search needs) (λ c κs. search needs) (λ c κs. search needs) (λ c κs. search needs) (λ c κs. search needs) (λ c κs. search needs) (λ c κs. search needs) (λ c κs. search needs) (λ c κs. search needs) (λ c κs. search needs) (λ c κs. search needs) (λ c κs. search needs) (λ c κs. search needs) (λ c κs. search needs) (λ c κs. search needs) (λ c κs. search needs) (λ c κs. search needs) (λ c κs. search needs) (λ c κs. search needs) (λ c κs. search needs) (λ c κs. search needs) (λ c κs. search needs) (λ c κs. search needs) (λ c κs. search needs) (λ c κs. search needs) (λ c κs. search needs) (λ c κs. search needs) (λ c κs. search needs) (λ c κs. search needs) (λ c κs. search needs) (λ c κs. search needs) (λ c κs. search needs) (λ c κs. search needs) (λ c κs. search needs) (λ c κs. search needs) (λ c κs. search needs) (λ c κs. search needs) (λ c κs. search needs) (λ c κs. search needs) (λ c κs. search needs) (λ c κs. search needs) (λ c κs. search needs) (λ c κs. search needs) (λ c κs. search needs) (λ c κs. search needs) (λ c κs. search needs) (λ c κs. search needs) (λ c κs. search needs) (λ c κs. search needs) (λ c κs. search needs) (λ c κs. search needs) (λ c κs. search needs) (λ c κs. search needs) (λ c κs. search needs) (λ c κs. search needs) (λ c κs. search needs) (λ c κs. search needs) (λ c κs. search needs) (λ c κs. search needs) (λ c κs. search needs) (λ c κs. search needs) (λ c κs. search needs) (λ c κs. search needs) (λ c κs. search needs) (λ c κs. search needs) (λ c κs. search needs) (λ c κs. search needs) (λ c κs. search needs) (λ c κs. search needs) (λ c κs. search needs) (λ c κs. search needs) (λ c κs. search needs) (λ c κs. search needs) (λ c κs. search needs) (λ c κs. search needs) (λ c κs. search needs) (λ c κs. search needs) (λ c κs. search needs) (λ c κs. search needs) (λ c κs. search needs) (λ c κs. search needs) (λ c κs. search needs) (λ c κs. search needs) (λ c κs. search needs) (λ c κs. search needs) (λ c κs. search needs) (λ c κs. search needs) (λ c κs. search needs) (λ c κs. search needs) (λ c κs. search needs) (λ c κs. search needs) (λ c κs. search needs) (λ c κs. search needs) (λ c κs. search needs) (λ c κs. search needs) (λ c κs. search needs) (λ c κs. search needs) (λ c κs. search needs) (λ c κs. search needs) (λ c κs. search needs) (λ c κs. search needs) (λ c κs. search needs) (λ c κs. search needs) returns returns-2 returns-3 returns-4 returns-5 returns-6 returns-7 returns-8 returns-9 returns-10 returns-11 returns-12 returns-13 returns-14 returns-15 returns-16 returns-17 returns-18 returns-19 returns-20 returns-21 returns-22 returns-23 returns-24 returns-25 returns-26 returns-27 returns-28 returns-29 returns-30 returns-31 returns-32 returns-33 returns-34 returns-35 returns-36 returns-37 returns-38 returns-39 returns-40 returns-41 returns-42 returns-43 returns-44 returns-45 returns-46 returns-47 returns-48 returns-49 returns-50 returns-51 returns-52 returns-53 returns-54 returns-55 returns-56 returns-57 returns-58 returns-59 returns-60 returns-61 returns-62 returns-63 returns-64 returns-65 returns-66 returns-67 returns-68 returns-69 returns-70 returns-71 returns-72 returns-73 returns-74 returns-75 returns-76 returns-77 returns-78 returns-79 returns-80 returns-81 returns-82 returns-83 returns-84 returns-85 returns-86 returns-87 returns-88 returns-89 returns-90 returns-91 returns-92 returns-93)
