@@ -1,7 +1,8 @@
 /* The plain interpreter: one function for each opening byte sequence, each a switch over the operation code; here those
-   without an opening, and the run. Line numbers in comments are of the manual. PC and registers change only where an
+   without an opening, and the calls. Line numbers in comments are of the manual. PC and registers change only where an
    instruction completes, so that an early return leaves the machine as it was. The parts are headers, so that the
    compiler sees them as one. */
+#include "plain_host.h"
 #include "plain_index.h"
 
 /* ── no opening ── */

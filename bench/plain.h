@@ -25,13 +25,11 @@ struct machine {
     uint16_t page[32];              /* 0 to 15 user, 16 to 31 system */
 };
 
-/* Events by document 01's numbers; what is not carried is zero. */
+/* Events by document 01's numbers, with the values that it names in its order; what is not carried is zero. */
 struct event {
-    uint8_t number;
-    uint8_t which;                  /* 1: descriptor; 8: direction, 0 in, 1 out */
-    uint16_t address;               /* 1, 3, 5, 7, 9: its address; 4: the operand */
-    uint16_t next;                  /* 4: the next address */
-    uint32_t physical;              /* 2: physical address; 8: port */
+    uint16_t number;
+    uint32_t first;                 /* 1: descriptor; 2: physical address; 3, 5, 7, 9: its address; 4: operand; 8: port */
+    uint32_t second;                /* 1: its address; 4: the next address; 8: direction, 0 in, 1 out */
 };
 
 /* 1: memory isn't 1 to 16 whole frames; 2: a bit that may not be set is set; else 0. */
@@ -43,9 +41,24 @@ int plain_step(struct machine *m, uint8_t *mem, size_t len, struct event *e);
 /* Steps until an event other than 0 or the budget; answers the steps that completed. */
 unsigned plain_run(struct machine *m, uint8_t *mem, size_t len, unsigned budget, struct event *e);
 
+/* Delivers the trap of an event; answers 0, 8 or 9, and changes nothing but where it answers 0. */
+int plain_deliver(struct machine *m, uint8_t *mem, size_t len, const struct event *e);
+
+/* Sets a descriptor's valid bit; answers 0, 6 or 7. */
+int plain_make_valid(struct machine *m, unsigned n);
+
 /* The stored form of 101 bytes. */
 enum { FORM_BYTES = 101 };
 void form_pack(const struct machine *m, unsigned frames, uint8_t *form);
 int form_unpack(struct machine *m, unsigned *frames, const uint8_t *form, size_t len);  /* refusal, or 0 */
+
+/* The calls of z280.h over all this. */
+uint8_t plain_call_reset(uint8_t *form, size_t form_len, uint8_t frames);
+uint8_t plain_call_step(uint8_t *form, size_t form_len, uint8_t *mem, size_t len, uint8_t *answer, size_t answer_len);
+uint8_t plain_call_run(uint8_t *form, size_t form_len, uint8_t *mem, size_t len, uint16_t budget, uint8_t *answer,
+                       size_t answer_len);
+uint8_t plain_call_deliver(uint8_t *form, size_t form_len, uint8_t *mem, size_t len, const uint8_t *event,
+                           size_t event_len);
+uint8_t plain_call_make_valid(uint8_t *form, size_t form_len, uint8_t descriptor);
 
 #endif

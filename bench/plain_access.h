@@ -34,24 +34,23 @@ enum { UNTRANSLATED = 32 };
 
 /* ── events ── */
 
-RARELY int ends(struct event *e, int number, uint16_t address)
+RARELY int ends(struct event *e, int number, uint32_t first)
 {
     e->number = number;
-    e->address = address;
+    e->first = first;
     return number;
 }
 
 RARELY void violates(struct machine *m, struct event *e, unsigned n)
 {
     m->mmu = (m->mmu & ~0x1F) | n;
-    e->which = n;
-    ends(e, 1, m->pc);
+    e->second = m->pc;
+    ends(e, 1, n);
 }
 
 RARELY void absent(struct event *e, uint32_t p)
 {
-    e->number = 2;
-    e->physical = p;
+    ends(e, 2, p);
 }
 
 #define NONE return ends(e, 9, m->pc)
@@ -61,9 +60,8 @@ RARELY int port(struct machine *m, struct event *e, uint16_t low, int out)
 {
     if (m->msr & MSR_USER && m->tcr & TCR_NO_USER_IO)
         return ends(e, 3, m->pc);
-    e->which = out;
-    e->physical = (uint32_t)m->iopage << 16 | low;
-    return e->number = 8;
+    e->second = out;
+    return ends(e, 8, (uint32_t)m->iopage << 16 | low);
 }
 
 /* ── memory ── */

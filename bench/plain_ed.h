@@ -189,7 +189,7 @@ static int ed_page(LENT, uint16_t pc)
     case 0x6E: return load_control(LEND, pc, &HL, false);
     case 0x71:                                          /* SC 6782 */
         FETCH16(nn);
-        e->next = pc;
+        e->second = pc;
         return ends(e, 4, nn);
     case 0x77: FETCH(v); PRIVILEGED; m->msr &= ~(v & MSR_ENABLES); DONE;    /* DI 2766 */
     case 0x7F: FETCH(v); PRIVILEGED; m->msr |= v & MSR_ENABLES; DONE;       /* EI 3091 */
