@@ -48,7 +48,9 @@ uint8_t plain_call_reset(uint8_t *form, size_t form_len, uint8_t frames)
     return 0;
 }
 
-uint8_t plain_call_step(uint8_t *form, size_t form_len, uint8_t *mem, size_t len, uint8_t *answer, size_t answer_len)
+/* One step, or a run of up to budget steps; either leaves the machine in its form and the event in the answer. */
+static uint8_t worked(uint8_t *form, size_t form_len, uint8_t *mem, size_t len, int single, uint16_t budget,
+                      uint8_t *answer, size_t answer_len)
 {
     struct machine m;
     struct event e;
@@ -56,25 +58,21 @@ uint8_t plain_call_step(uint8_t *form, size_t form_len, uint8_t *mem, size_t len
     int refusal = taken(&m, &frames, form, form_len, len, answer_len);
     if (refusal)
         return refusal;
-    unsigned steps = plain_step(&m, mem, len, &e) == 0;
+    unsigned steps = single ? plain_step(&m, mem, len, &e) == 0 : plain_run(&m, mem, len, budget, &e);
     form_pack(&m, frames, form);
     put_answer(answer, &e, steps);
     return 0;
 }
 
+uint8_t plain_call_step(uint8_t *form, size_t form_len, uint8_t *mem, size_t len, uint8_t *answer, size_t answer_len)
+{
+    return worked(form, form_len, mem, len, 1, 0, answer, answer_len);
+}
+
 uint8_t plain_call_run(uint8_t *form, size_t form_len, uint8_t *mem, size_t len, uint16_t budget, uint8_t *answer,
                        size_t answer_len)
 {
-    struct machine m;
-    struct event e;
-    unsigned frames;
-    int refusal = taken(&m, &frames, form, form_len, len, answer_len);
-    if (refusal)
-        return refusal;
-    unsigned steps = plain_run(&m, mem, len, budget, &e);
-    form_pack(&m, frames, form);
-    put_answer(answer, &e, steps);
-    return 0;
+    return worked(form, form_len, mem, len, 0, budget, answer, answer_len);
 }
 
 uint8_t plain_call_deliver(uint8_t *form, size_t form_len, uint8_t *mem, size_t len, const uint8_t *event,

@@ -5,7 +5,6 @@
 //! bytes around each buffer.
 
 mod buffer;
-mod ffi;
 mod kinds;
 mod pair;
 mod record;

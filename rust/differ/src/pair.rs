@@ -2,9 +2,9 @@
 //! either could reach is compared.
 
 use second::{calls, form, Machine};
+use z280::calls as proved;
 
 use crate::buffer::Buffer;
-use crate::ffi;
 use crate::report::Mismatch;
 use crate::tally::Tally;
 
@@ -63,11 +63,11 @@ impl Side {
     fn on_proved(&mut self, call: Call) -> u8 {
         let (form, memory, answer) = (self.form.bytes_mut(), self.memory.bytes_mut(), self.answer.bytes_mut());
         match call {
-            Call::Reset(frames) => ffi::reset(form, frames),
-            Call::Step => ffi::step(form, memory, answer),
-            Call::Run(budget) => ffi::run(form, memory, budget, answer),
-            Call::Deliver => ffi::deliver(form, memory, answer),
-            Call::MakeValid(descriptor) => ffi::make_valid(form, descriptor),
+            Call::Reset(frames) => proved::reset(form, frames),
+            Call::Step => proved::step(form, memory, answer),
+            Call::Run(budget) => proved::run(form, memory, budget, answer),
+            Call::Deliver => proved::deliver(form, memory, answer),
+            Call::MakeValid(descriptor) => proved::make_valid(form, descriptor),
         }
     }
 
