@@ -26,25 +26,44 @@ and-lost (Byte b) f (inr h) = let z : _≡_ {A = ℕ} 0 2 = h in absurd (omega a
 and-lost (Denied i) f h = refl
 and-lost (Lacks p) f h = refl
 
+-- A byte, and then the rest: its answer is h where it is met. Both ways of counting bytes are of this form.
+module _ (u : Bool) (mmu : ℕ) (ds w : List ℕ) (p : Bool) (a : ℕ) (rest : ℕ → Got) where
+  joins : Got
+  joins = andThen (readFrom u mmu ds w p a) (λ b. andThen (rest (next a)) (λ v. Byte (joined b v)))
+
+  byte-lost : (g : Got) → g ≡ readFrom u mmu ds w p a → Lost g → g ≡ joins
+  unfolding joins
+  byte-lost g e o = rw (← e) (and-lost g _ o)
+
+  after-lost : (b q : ℕ) (g h : Got) → g ≡ readFrom u mmu ds w p a → g ≡ Byte b → q ≡ next a → h ≡ rest q → Lost h → h ≡ joins
+  unfolding joins andThen
+  after-lost b q g h e x s y o = rw (← e, x, ← s, ← y) (and-lost h _ o)
+
+  after-read : (b q v r : ℕ) (g h : Got) → g ≡ readFrom u mmu ds w p a → g ≡ Byte b → q ≡ next a → h ≡ rest q → h ≡ Byte v → r ≡ joined b v → Byte r ≡ joins
+  unfolding joins andThen
+  after-read b q v r g h e x s y z j = rw (← e, x, ← s, ← y, z, j)
+
+-- ── so many ──
+
 module _ (n : ℕ) (u : Bool) (mmu : ℕ) (ds w : List ℕ) (k : Bool) (a : ℕ) where
   pub first-lost : (g : Got) → g ≡ readFrom u mmu ds w k a → Lost g → g ≡ gotMany (suc n) u mmu ds w k a
-  unfolding gotMany
-  first-lost g e o = rw (← e) (and-lost g _ o)
+  unfolding gotMany joins
+  first-lost g e o = byte-lost u mmu ds w k a (gotMany n u mmu ds w k) g e o
 
   pub rest-lost : (b q : ℕ) (g h : Got) → g ≡ readFrom u mmu ds w k a → g ≡ Byte b → q ≡ next a →
       h ≡ gotMany n u mmu ds w k q → Lost h → h ≡ gotMany (suc n) u mmu ds w k a
-  unfolding gotMany andThen
-  rest-lost b q g h e p s t o = rw (← e, p, ← s, ← t) (and-lost h _ o)
+  unfolding gotMany joins
+  rest-lost b q g h e p s t o = after-lost u mmu ds w k a (gotMany n u mmu ds w k) b q g h e p s t o
 
   pub all-read : (b q v r : ℕ) (g h : Got) → g ≡ readFrom u mmu ds w k a → g ≡ Byte b → q ≡ next a →
       h ≡ gotMany n u mmu ds w k q → h ≡ Byte v → r ≡ joined b v → Byte r ≡ gotMany (suc n) u mmu ds w k a
-  unfolding gotMany andThen
-  all-read b q v r g h e p s t y x = rw (← e, p, ← s, ← t, y, x)
+  unfolding gotMany joins
+  all-read b q v r g h e p s t y x = after-read u mmu ds w k a (gotMany n u mmu ds w k) b q v r g h e p s t y x
 
 pub one-read : (u : Bool) (mmu : ℕ) (ds w : List ℕ) (k : Bool) (a b r : ℕ) (g : Got) →
     g ≡ readFrom u mmu ds w k a → g ≡ Byte b → r ≡ joined b 0 → Byte r ≡ gotMany 1 u mmu ds w k a
-unfolding gotMany andThen
-one-read u mmu ds w k a b r g e p x = rw (← e, p, x)
+unfolding gotMany
+one-read u mmu ds w k a b r g e p x = all-read 0 u mmu ds w k a b (next a) 0 r g (Byte 0) e p refl refl refl x
 
 -- ── no more than so many ──
 
@@ -53,24 +72,26 @@ module _ (k n : ℕ) (u : Bool) (mmu : ℕ) (ds w : List ℕ) (p : Bool) (a : �
   unfolding gotFew
   few-none t = rw t
 
+  -- there is one at least
+  few-joins : eqb n 0 ≡ false → joins u mmu ds w p a (gotFew k (n - 1) u mmu ds w p) ≡ gotFew (suc k) n u mmu ds w p a
+  unfolding gotFew joins
+  few-joins t = rw t
+
   pub few-lost : (g : Got) → eqb n 0 ≡ false → g ≡ readFrom u mmu ds w p a → Lost g → g ≡ gotFew (suc k) n u mmu ds w p a
-  unfolding gotFew
-  few-lost g t e o = rw (t, ← e) (and-lost g _ o)
+  few-lost g t e o = byte-lost u mmu ds w p a (gotFew k (n - 1) u mmu ds w p) g e o ∙ few-joins t
 
   pub few-rest-lost : (b q : ℕ) (g h : Got) → eqb n 0 ≡ false → g ≡ readFrom u mmu ds w p a → g ≡ Byte b → q ≡ next a →
       h ≡ gotFew k (n - 1) u mmu ds w p q → Lost h → h ≡ gotFew (suc k) n u mmu ds w p a
-  unfolding gotFew andThen
-  few-rest-lost b q g h t e x s y o = rw (t, ← e, x, ← s, ← y) (and-lost h _ o)
+  few-rest-lost b q g h t e x s y o = after-lost u mmu ds w p a (gotFew k (n - 1) u mmu ds w p) b q g h e x s y o ∙ few-joins t
 
   pub few-all : (b q v r : ℕ) (g h : Got) → eqb n 0 ≡ false → g ≡ readFrom u mmu ds w p a → g ≡ Byte b → q ≡ next a →
       h ≡ gotFew k (n - 1) u mmu ds w p q → h ≡ Byte v → r ≡ joined b v → Byte r ≡ gotFew (suc k) n u mmu ds w p a
-  unfolding gotFew andThen
-  few-all b q v r g h t e x s y z j = rw (t, ← e, x, ← s, ← y, z, j)
+  few-all b q v r g h t e x s y z j = after-read u mmu ds w p a (gotFew k (n - 1) u mmu ds w p) b q v r g h e x s y z j ∙ few-joins t
 
 pub few-one : (n : ℕ) (u : Bool) (mmu : ℕ) (ds w : List ℕ) (p : Bool) (a b r : ℕ) (g : Got) → eqb n 0 ≡ false →
     g ≡ readFrom u mmu ds w p a → g ≡ Byte b → r ≡ joined b 0 → Byte r ≡ gotFew 1 n u mmu ds w p a
-unfolding gotFew andThen
-few-one n u mmu ds w p a b r g t e x j = rw (t, ← e, x, j)
+unfolding gotFew
+few-one n u mmu ds w p a b r g t e x j = few-all 0 n u mmu ds w p a b (next a) 0 r g (Byte 0) t e x refl refl refl j
 
 -- as many as k where n is as many or more
 few-full : (k n : ℕ) (u : Bool) (mmu : ℕ) (ds w : List ℕ) (p : Bool) (a : ℕ) → gotFew k (k + n) u mmu ds w p a ≡ gotMany k u mmu ds w p a
