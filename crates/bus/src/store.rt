@@ -43,7 +43,7 @@ pub fn denied(r: Regs, c: Control, control: u16, g: Got) -> Turn
 }
 
 // The physical address that a write goes to.
-fn room_for(
+pub fn room_for(
     user: bool,
     bits: u8,
     control: u16,

@@ -17,7 +17,7 @@ use Rattle.bus.specs.declared.kinds.Event.the-variants.{Stopped}
 use Rattle.bus.specs.Access.{next, roomFor}
 use Rattle.deliver.specs.declared.saves.Pair.the-variants.{At}
 use Rattle.deliver.specs.Deliver.{Outcome, outcome, stopped, trapOf, vectorAt, saved, taken, deliverOf}
-use Rattle.deliver.specs.Words.{pairWith, pairOf, pairFor, markedWord, storedWord, entering}
+use Rattle.deliver.specs.Words.{pairWith, pairOf, pairFor, markedWord, storedWord, entering, storeOne, storeTwo, storeThree}
 use Rattle.deliver.specs.Valid.{makeValid}
 use Rattle.deliver.specs.Known.{six, Called, SystemCall, LastDescriptor}
 use Rattle.deliver.proofs.Stack.{stored-length, ends-3}
@@ -68,13 +68,13 @@ module _ (m : Machine) (w : List ℕ) (to : ℕ) (long : 0x2000 ≤ length w) (r
   place a h = pair-off (m .mmu) (m .ds) (length w) a off (omega arith) (omega arith)
 
   saves : outcome (entering m marks stored 0x1FFA (vectorAt (m .ctl) 0x50)) stored ≡ saved m w 0x50 (to ∷ m .ctl .msr ∷ 0x1234 ∷ [])
-  unfolding once twice stored marks
+  unfolding once twice stored marks saved storeOne storeTwo storeThree
   saves =
-      ends-3 m w 0x50
-      to 0x1FFE 0x1FFE 0x1FFF (pairFor (m .mmu) (m .ds) (length w) 0x1FFE) (rw sp) refl (place 0x1FFE (omega arith))
-      (m .ctl .msr) 0x1FFC 0x1FFC 0x1FFD (pairFor (m .mmu) (m .ds) (length w) 0x1FFC) refl refl (place 0x1FFC (omega arith))
-      0x1234 0x1FFA 0x1FFA 0x1FFB (pairFor (m .mmu) (m .ds) (length w) 0x1FFA) refl refl (place 0x1FFA (omega arith))
-      (vectorAt (m .ctl) 0x50) _ _ _ _ _ _ _ refl (lt-ltb (vectorAt (m .ctl) 0x50 + 3) (length w) room) refl refl refl refl refl refl refl
+      ends-3 m w (vectorAt (m .ctl) 0x50) to (m .ctl .msr) 0x1FFE 0x1FFC (rw sp) refl
+      0x1FFE 0x1FFF (sym (place 0x1FFE (omega arith)))
+      0x1FFC 0x1FFD (sym (place 0x1FFC (omega arith)))
+      0x1234 0x1FFA refl 0x1FFA 0x1FFB (sym (place 0x1FFA (omega arith)))
+      room
 
   once-long : length once ≡ length w
   unfolding once

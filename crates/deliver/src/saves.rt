@@ -1,16 +1,14 @@
 // Saving status on the system stack and entering the service routine. All places are found before a byte changes.
 ghost use mathlib.Core.Path.{_≡_};
-ghost use mathlib.Core.Bool.{false};
 ghost use mathlib.Core.List.{[], _∷_};
 ghost use Prim.Native.Nat.{_<_, _+_, _*_};
 ghost use lib.ListN.{length};
-ghost use Rattle.bus.specs.Access.{roomFor};
 ghost use Rattle.deliver.specs.Deliver.{outcome, refusing, saved, vectorAt};
-ghost use Rattle.deliver.specs.Words.{pairFor, pairOf, pairWith, markedWord, storedWord, wordIn, entering};
+ghost use Rattle.deliver.specs.Words.{pairFor, pairOf, pairWith, placesOf, placesFor, markedWord, storedWord, wordOf, wordIn, entering, storeOne, storeTwo, storeThree, savedAt};
 use crate::Delivered;
 use board::Got;
 use bus::read::next_of;
-use mmu::Place;
+use bus::store::room_for;
 use plan::kinds::plus16;
 use regs::Control;
 use regs::Machine;
@@ -21,28 +19,26 @@ enum Pair {
     Nowhere,
 }
 
+// .. and of three words.
+enum Places {
+    Found(u64, u64, u64, u64, u64, u64),
+    Lost,
+}
+
+// A word to be stored, its logical address, and the physical addresses of its bytes.
+struct Word {
+    at: u16,
+    low: u64,
+    high: u64,
+    value: u16,
+}
+
 pub fn refused(refusal: u8, m: Machine) -> Delivered
     ensures { λ r. ⌜ r ≡ refusing refusal m ⌝ }
 {
     Delivered {
         refusal,
         machine: m,
-    }
-}
-
-// Where a byte that is pushed at a goes: system mode, data, a write.
-fn room_for(control: u16, ds: &[u16; 32], size: usize, a: u16) -> Got
-    ensures { λ r. ⌜ r ≡ roomFor false control (now (ds .entry)) size false a ⌝ }
-{
-    let bits = mmu::mode_bits(control, false);
-    let place = mmu::translate(bits, false, ds, false, true, a);
-    match place {
-        Place::At(p) => {
-            let at = p as usize;
-            let inside = at < size;
-            if inside { Got::Byte(p) } else { Got::Lacks(p) }
-        }
-        Place::Violates(n) => Got::Denied(n),
     }
 }
 
@@ -66,28 +62,53 @@ fn pair_of(g: Got, h: Got) -> Pair
     }
 }
 
+// Where a word that is pushed at a goes: system mode, data, writes.
 fn pair_for(control: u16, ds: &[u16; 32], size: usize, a: u16) -> Pair
     ensures { λ r. ⌜ r ≡ pairFor control (now (ds .entry)) size a ⌝ }
 {
-    let g = room_for(control, ds, size, a);
-    let h = room_for(control, ds, size, next_of(a));
+    let bits = mmu::mode_bits(control, false);
+    let g = room_for(false, bits, control, ds, size, false, a);
+    let h = room_for(false, bits, control, ds, size, false, next_of(a));
     pair_of(g, h)
 }
 
-// The word v at logical address a, whose bytes lie at p and q.
-fn push(control: u16, ds: &mut [u16; 32], w: &mut [u8], a: u16, p: u64, q: u64, v: u16)
-    requires { ⌜ p < length (now w) ⌝ }
-    requires { ⌜ q < length (now w) ⌝ }
-    ensures { λ r. ⌜ now (ds .exit) ≡ markedWord control a (now (ds .entry)) ⌝ }
-    ensures { λ r. ⌜ now (w .exit) ≡ storedWord p q v (now (w .entry)) ⌝ }
+fn places_of(g: Pair, h: Pair, k: Pair) -> Places
+    ensures { λ r. ⌜ r ≡ placesOf g h k ⌝ }
 {
-    let i = p as usize;
-    let j = q as usize;
-    w[i] = (v % 256) as u8;
-    w[j] = (v / 256) as u8;
+    let Pair::At(p, q) = g else {
+        return Places::Lost;
+    };
+    let Pair::At(p2, q2) = h else {
+        return Places::Lost;
+    };
+    let Pair::At(p3, q3) = k else {
+        return Places::Lost;
+    };
+    Places::Found(p, q, p2, q2, p3, q3)
+}
+
+fn places_for(control: u16, ds: &[u16; 32], size: usize, a: u16, b: u16, d: u16) -> Places
+    ensures { λ r. ⌜ r ≡ placesFor control (now (ds .entry)) size a b d ⌝ }
+{
+    let g = pair_for(control, ds, size, a);
+    let h = pair_for(control, ds, size, b);
+    let k = pair_for(control, ds, size, d);
+    places_of(g, h, k)
+}
+
+fn push(control: u16, ds: &mut [u16; 32], w: &mut [u8], x: Word)
+    requires { ⌜ x .low < length (now w) ⌝ }
+    requires { ⌜ x .high < length (now w) ⌝ }
+    ensures { λ r. ⌜ now (ds .exit) ≡ markedWord control (x .at) (now (ds .entry)) ⌝ }
+    ensures { λ r. ⌜ now (w .exit) ≡ storedWord (x .low) (x .high) (x .value) (now (w .entry)) ⌝ }
+{
+    let i = x.low as usize;
+    let j = x.high as usize;
+    w[i] = (x.value % 256) as u8;
+    w[j] = (x.value / 256) as u8;
     let bits = mmu::mode_bits(control, false);
-    mmu::mark(bits, false, ds, false, a);
-    mmu::mark(bits, false, ds, false, next_of(a));
+    mmu::mark(bits, false, ds, false, x.at);
+    mmu::mark(bits, false, ds, false, next_of(x.at));
 }
 
 fn vector_at(c: Control, offset: u16) -> usize
@@ -131,28 +152,100 @@ fn enter(m: Machine, ds: [u16; 32], w: &[u8], sp: u16, i: usize) -> Delivered
     }
 }
 
+fn word_at(at: u16, low: u64, high: u64, value: u16) -> Word
+    ensures { λ r. ⌜ r ≡ wordOf at low high value ⌝ }
+{
+    Word {
+        at,
+        low,
+        high,
+        value,
+    }
+}
+
+// The last word pushed, then the new status.
+fn store_one(m: Machine, ds: [u16; 32], w: &mut [u8], i: usize, x: Word) -> Delivered
+    requires { ⌜ x .low < length (now w) ⌝ }
+    requires { ⌜ x .high < length (now w) ⌝ }
+    requires { ⌜ i + 3 < length (now w) ⌝ }
+    ensures { λ r. ⌜ outcome r (now (w .exit)) ≡ storeOne m ds (now (w .entry)) i x ⌝ }
+{
+    let mut marked = ds;
+    push(m.mmu, &mut marked, w, x);
+    enter(m, marked, w, x.at, i)
+}
+
+fn store_two(m: Machine, ds: [u16; 32], w: &mut [u8], i: usize, x: Word, y: Word) -> Delivered
+    requires { ⌜ x .low < length (now w) ⌝ }
+    requires { ⌜ x .high < length (now w) ⌝ }
+    requires { ⌜ y .low < length (now w) ⌝ }
+    requires { ⌜ y .high < length (now w) ⌝ }
+    requires { ⌜ i + 3 < length (now w) ⌝ }
+    ensures { λ r. ⌜ outcome r (now (w .exit)) ≡ storeTwo m ds (now (w .entry)) i x y ⌝ }
+{
+    let mut marked = ds;
+    push(m.mmu, &mut marked, w, x);
+    store_one(m, marked, w, i, y)
+}
+
+fn store_three(m: Machine, w: &mut [u8], i: usize, x: Word, y: Word, z: Word) -> Delivered
+    requires { ⌜ x .low < length (now w) ⌝ }
+    requires { ⌜ x .high < length (now w) ⌝ }
+    requires { ⌜ y .low < length (now w) ⌝ }
+    requires { ⌜ y .high < length (now w) ⌝ }
+    requires { ⌜ z .low < length (now w) ⌝ }
+    requires { ⌜ z .high < length (now w) ⌝ }
+    requires { ⌜ i + 3 < length (now w) ⌝ }
+    ensures { λ r. ⌜ outcome r (now (w .exit)) ≡ storeThree m (now (w .entry)) i x y z ⌝ }
+{
+    let mut marked = m.ds;
+    push(m.mmu, &mut marked, w, x);
+    store_two(m, marked, w, i, y, z)
+}
+
+// The address and MSR, by the vector at i.
+fn two_words(m: Machine, w: &mut [u8], i: usize, address: u16) -> Delivered
+    requires { ⌜ i + 3 < length (now w) ⌝ }
+    ensures { λ r. ⌜ outcome r (now (w .exit)) ≡ savedAt m (now (w .entry)) i (address ∷ m .ctl .msr ∷ []) ⌝ }
+{
+    let ds = m.ds;
+    let a = plus16(m.regs.ssp, 65534);
+    let b = plus16(a, 65534);
+    let t = places_for(m.mmu, &ds, w.len(), a, b, b);
+    let Places::Found(p, q, p2, q2, _, _) = t else {
+        return refused(9, m);
+    };
+    let x = word_at(a, p, q, address);
+    let y = word_at(b, p2, q2, m.ctl.msr);
+    store_two(m, ds, w, i, x, y)
+}
+
+// .. and a third word.
+fn three_words(m: Machine, w: &mut [u8], i: usize, address: u16, operand: u16) -> Delivered
+    requires { ⌜ i + 3 < length (now w) ⌝ }
+    ensures { λ r. ⌜ outcome r (now (w .exit)) ≡ savedAt m (now (w .entry)) i (address ∷ m .ctl .msr ∷ operand ∷ []) ⌝ }
+{
+    let ds = m.ds;
+    let a = plus16(m.regs.ssp, 65534);
+    let b = plus16(a, 65534);
+    let d = plus16(b, 65534);
+    let t = places_for(m.mmu, &ds, w.len(), a, b, d);
+    let Places::Found(p, q, p2, q2, p3, q3) = t else {
+        return refused(9, m);
+    };
+    let x = word_at(a, p, q, address);
+    let y = word_at(b, p2, q2, m.ctl.msr);
+    let z = word_at(d, p3, q3, operand);
+    store_three(m, w, i, x, y, z)
+}
+
 pub fn save_two(m: Machine, w: &mut [u8], offset: u16, address: u16) -> Delivered
     ensures { λ r. ⌜ outcome r (now (w .exit)) ≡ saved m (now (w .entry)) offset (address ∷ m .ctl .msr ∷ []) ⌝ }
 {
-    let r = m.regs;
-    let c = m.ctl;
-    let mut ds = m.ds;
-    let a = plus16(r.ssp, 65534);
-    let g = pair_for(m.mmu, &ds, w.len(), a);
-    let Pair::At(p, q) = g else {
-        return refused(9, m);
-    };
-    let b = plus16(a, 65534);
-    let h = pair_for(m.mmu, &ds, w.len(), b);
-    let Pair::At(p2, q2) = h else {
-        return refused(9, m);
-    };
-    let i = vector_at(c, offset);
+    let i = vector_at(m.ctl, offset);
     let inside = i + 3 < w.len();
     if inside {
-        push(m.mmu, &mut ds, w, a, p, q, address);
-        push(m.mmu, &mut ds, w, b, p2, q2, c.msr);
-        enter(m, ds, w, b, i)
+        two_words(m, w, i, address)
     } else {
         refused(9, m)
     }
@@ -161,31 +254,10 @@ pub fn save_two(m: Machine, w: &mut [u8], offset: u16, address: u16) -> Delivere
 pub fn save_three(m: Machine, w: &mut [u8], offset: u16, address: u16, operand: u16) -> Delivered
     ensures { λ r. ⌜ outcome r (now (w .exit)) ≡ saved m (now (w .entry)) offset (address ∷ m .ctl .msr ∷ operand ∷ []) ⌝ }
 {
-    let r = m.regs;
-    let c = m.ctl;
-    let mut ds = m.ds;
-    let a = plus16(r.ssp, 65534);
-    let g = pair_for(m.mmu, &ds, w.len(), a);
-    let Pair::At(p, q) = g else {
-        return refused(9, m);
-    };
-    let b = plus16(a, 65534);
-    let h = pair_for(m.mmu, &ds, w.len(), b);
-    let Pair::At(p2, q2) = h else {
-        return refused(9, m);
-    };
-    let d = plus16(b, 65534);
-    let k = pair_for(m.mmu, &ds, w.len(), d);
-    let Pair::At(p3, q3) = k else {
-        return refused(9, m);
-    };
-    let i = vector_at(c, offset);
+    let i = vector_at(m.ctl, offset);
     let inside = i + 3 < w.len();
     if inside {
-        push(m.mmu, &mut ds, w, a, p, q, address);
-        push(m.mmu, &mut ds, w, b, p2, q2, c.msr);
-        push(m.mmu, &mut ds, w, d, p3, q3, operand);
-        enter(m, ds, w, d, i)
+        three_words(m, w, i, address, operand)
     } else {
         refused(9, m)
     }

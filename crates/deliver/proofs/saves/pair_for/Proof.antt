@@ -8,4 +8,4 @@ unfolding pairFor
 returns c = simp (← c .pair-of .ensures, ← c .before .room-for2 .ensures, ← c .before .before .next-of .ensures, ← c .before .before .before .room-for .ensures)
 
 pub pair-for-spec : {M : Type 1} → statement M
-pair-for-spec = tie.close (tie.spec (λ c κs. search needs) (λ c κs. search needs) (λ c κs. search needs) (λ c κs. search needs) returns)
+pair-for-spec = tie.close (tie.spec (λ c κs. search needs) (λ c κs. search needs) (λ c κs. search needs) (λ c κs. search needs) (λ c κs. search needs) returns)

@@ -1,6 +1,5 @@
-use Rattle.deliver.specs.Words.{storedWord}
 use mathlib.Core.Path.{refl}
-use Rattle.deliver.specs.Words.{markedWord}
+use Rattle.deliver.specs.Words.{markedWord, storedWord}
 use borrow.Author.Needs.{needs}
 use Rattle.deliver.proofs.saves.push.Statement.{statement}
 use Rattle.deliver.proofs.saves.push.Tie as tie
