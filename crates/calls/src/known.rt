@@ -1,9 +1,10 @@
 // Document 01, "Known steps": those that are to be run.
-use crate::machines;
-use crate::machines::machine;
-use crate::machines::with_descriptor;
-use crate::tally::Tally;
+use crate::number;
 use bus::kinds::Event;
+use cases::machines;
+use cases::machines::machine;
+use cases::machines::with_descriptor;
+use cases::tally::Tally;
 use regs::Machine;
 
 // SC 1234h at 0, and at its vector new MSR 017Fh and PC ABCDh.
@@ -30,7 +31,7 @@ pub fn system_call(t: Tally) -> Tally {
     let mut w = calling();
     let a = host::step(machine(0x037F, 0, 0, 0x2000), &mut w);
     let e = a.event;
-    let t = t.note(b"system call: event", machines::number(e), 4);
+    let t = t.note(b"system call: event", number(e), 4);
     let t = t.note(b"system call: carries", machines::carries(e), 0x12340004);
     let d = deliver::deliver(a.machine, &mut w, e);
     let next = d.machine;
@@ -57,8 +58,8 @@ fn fetched(d: u16) -> Event {
 // Frame 0Fh with 16 frames is backed; frame 10h gives event 2.
 pub fn frames(t: Tally) -> Tally {
     let past = fetched(0x0108);
-    let t = t.note(b"frame 0F: event", machines::number(fetched(0x00F8)), 0);
-    let t = t.note(b"frame 10: event", machines::number(past), 2);
+    let t = t.note(b"frame 0F: event", number(fetched(0x00F8)), 0);
+    let t = t.note(b"frame 10: event", number(past), 2);
     t.note(b"frame 10: carries", machines::carries(past), 0x10000)
 }
 
@@ -73,18 +74,18 @@ pub fn push_withheld(t: Tally) -> Tally {
     w[0x2000] = 0xC5;
     let a = host::run(pushing(), &mut w, 1);
     let e = a.event;
-    let t = t.note(b"P11: first event", machines::number(e), 1);
+    let t = t.note(b"P11: first event", number(e), 1);
     let t = t.note(b"P11: carries", machines::carries(e), 0x00002000);
     let made = deliver::make_valid(a.machine, 0);
     let b = host::run(made.machine, &mut w, 1);
     let e = b.event;
-    let t = t.note(b"P11: second event", machines::number(e), 1);
+    let t = t.note(b"P11: second event", number(e), 1);
     let t = t.note(b"P11: carries", machines::carries(e), 0x00012000);
     let made = deliver::make_valid(b.machine, 1);
     let c = host::run(made.machine, &mut w, 1);
     let e = c.event;
     let next = c.machine;
-    let t = t.note(b"P11: third event", machines::number(e), 0);
+    let t = t.note(b"P11: third event", number(e), 0);
     let t = t.note(b"P11: steps", c.steps as u32, 1);
     t.note(b"P11: SP", machines::user_sp(next), 0x0FFF)
 }

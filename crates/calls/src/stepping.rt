@@ -1,9 +1,10 @@
 // Step and run: refusals 1, 2.
-use crate::machines;
-use crate::machines::controlled;
-use crate::machines::forbidden;
-use crate::machines::machine;
-use crate::tally::Tally;
+use crate::number;
+use cases::machines;
+use cases::machines::controlled;
+use cases::machines::forbidden;
+use cases::machines::machine;
+use cases::tally::Tally;
 use regs::Machine;
 
 const MOST: usize = 69632;
@@ -72,12 +73,12 @@ pub fn refused_answers(t: Tally) -> Tally {
     let a = host::step(m, &mut w);
     let e = a.event;
     let next = a.machine;
-    let t = t.note(b"step: refused, event", machines::number(e), 0);
+    let t = t.note(b"step: refused, event", number(e), 0);
     let t = t.note(b"step: refused, PC", machines::pc(next), 0x0123);
     let a = host::run(m, &mut w, 5);
     let e = a.event;
     let next = a.machine;
-    let t = t.note(b"run: refused, event", machines::number(e), 0);
+    let t = t.note(b"run: refused, event", number(e), 0);
     let t = t.note(b"run: refused, steps", a.steps as u32, 0);
     t.note(b"run: refused, PC", machines::pc(next), 0x0123)
 }

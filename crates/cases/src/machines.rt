@@ -93,11 +93,6 @@ pub fn msr(m: Machine) -> u32 {
     c.msr as u32
 }
 
-pub fn number(e: Event) -> u32 {
-    let n = events::event_numbers(e);
-    n.number as u32
-}
-
 fn stop_carries(s: Stop) -> u32 {
     match s {
         Stop::Privileged(a) => a as u32,

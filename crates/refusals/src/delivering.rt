@@ -1,10 +1,10 @@
 // Delivery: refusals 1, 2, 8, 9.
-use crate::machines;
-use crate::machines::controlled;
-use crate::machines::forbidden;
-use crate::machines::machine;
-use crate::tally::Tally;
 use bus::kinds::Event;
+use cases::machines;
+use cases::machines::controlled;
+use cases::machines::forbidden;
+use cases::machines::machine;
+use cases::tally::Tally;
 use plan::kinds::Stop;
 use regs::Machine;
 

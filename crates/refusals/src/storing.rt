@@ -1,7 +1,7 @@
 // Writer: refusals 1, 2, 3. Reader: 3, 4, 2, 5; no form of version 1 meets 10.
-use crate::machines;
-use crate::machines::forbidden;
-use crate::tally::Tally;
+use cases::machines;
+use cases::machines::forbidden;
+use cases::tally::Tally;
 use regs::Machine;
 
 // The refusal of the writer into n bytes.

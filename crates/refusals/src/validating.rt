@@ -1,8 +1,8 @@
 // Making valid: refusals 2, 6, 7.
-use crate::machines;
-use crate::machines::forbidden;
-use crate::machines::with_descriptor;
-use crate::tally::Tally;
+use cases::machines;
+use cases::machines::forbidden;
+use cases::machines::with_descriptor;
+use cases::tally::Tally;
 use regs::Machine;
 
 fn make(t: Tally, name: &[u8], m: Machine, n: u8, expected: u32) -> Tally {
