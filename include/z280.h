@@ -1,4 +1,5 @@
-/* The proved Z280 machine for C: link libz280.a (rt staticlib z280). What each call promises stands in crates/z280/specs/Calls.antt.
+/* The proved Z280 machine for C: link libz280.a (rt staticlib z280). What each call promises stands in crates/z280/specs/Calls.antt
+   and crates/lent/specs/Lent.antt.
 
    A machine is its stored form, Z280_FORM bytes in the host's own buffer; its memory is lent, exactly the frames of
    Z280_FRAME bytes that the form names, physical address 0 first. Nothing is kept between calls.

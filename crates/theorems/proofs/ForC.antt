@@ -35,7 +35,8 @@ use Rattle.host.proofs.Laws.{run-one}
 use Rattle.deliver.specs.Deliver as d
 use Rattle.deliver.specs.Deliver.{stopped, trapOf, deliverOf}
 use Rattle.deliver.specs.Valid.{makeValid}
-use Rattle.z280.specs.Calls.{Formed, formed, resetForm, lentRefusal, Answered, answered, completedBy, went, stepRead, stepForm, runRead, runForm, Moved, moved, deliveredBack, deliverRead, deliverForm, madeBack, makeRead, makeForm}
+use Rattle.lent.specs.Lent.{Formed, formed, resetForm, lentRefusal, completedBy, Moved, moved, deliveredBack, deliverRead, deliverForm, madeBack, makeRead, makeForm}
+use Rattle.z280.specs.Calls.{Answered, answered, went, stepRead, stepForm, runRead, runForm}
 use Rattle.theorems.specs.Refusals.{Test, refusalBy, deliverable, fatal, readTests}
 use Rattle.theorems.specs.ForC.{DeterminedForC, resetTests, bufferTests, lentTests, trapTests, markTests, RefusedForC, WorksForC}
 use Rattle.theorems.proofs.Below.{EventBelow, step-below, run-below, named-below}

@@ -22,7 +22,8 @@ use Rattle.form.specs.Form.{readForm, writeRefusal}
 use Rattle.events.specs.Events.{eventNumbers}
 use Rattle.events.specs.Bytes.{answerBytes, eventIn}
 use Rattle.events.specs.Codec.{InRange}
-use Rattle.z280.specs.Calls.{formed, resetForm, answered, stepForm, runForm, moved, deliverForm, makeForm}
+use Rattle.lent.specs.Lent.{formed, resetForm, moved, deliverForm, makeForm}
+use Rattle.z280.specs.Calls.{answered, stepForm, runForm}
 use Rattle.theorems.specs.Refusals.{Test, test, refusalBy, deliverable, fatal, readTests}
 
 -- ── no two answers, and no two sets of lent bytes, meet a promise ──

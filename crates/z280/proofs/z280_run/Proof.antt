@@ -1,4 +1,5 @@
-use Rattle.z280.proofs.Laws.{twelve, run-refused, run-on}
+use Rattle.lent.proofs.Laws.{twelve}
+use Rattle.z280.proofs.Laws.{run-refused, run-on}
 use borrow.Author.Needs.{needs}
 use Rattle.z280.proofs.z280_run.Statement.{statement}
 use Rattle.z280.proofs.z280_run.Tie as tie

@@ -1,4 +1,5 @@
-use Rattle.z280.proofs.Laws.{twelve, step-refused, step-on}
+use Rattle.lent.proofs.Laws.{twelve}
+use Rattle.z280.proofs.Laws.{step-refused, step-on}
 use borrow.Author.Needs.{needs}
 use Rattle.z280.proofs.z280_step.Statement.{statement}
 use Rattle.z280.proofs.z280_step.Tie as tie

@@ -1,7 +1,7 @@
-use Rattle.z280.specs.Calls.{lentRefusal}
+use Rattle.lent.specs.Lent.{lentRefusal}
 use borrow.Author.Needs.{needs}
-use Rattle.z280.proofs.lent_refusal.Statement.{statement}
-use Rattle.z280.proofs.lent_refusal.Tie as tie
+use Rattle.lent.proofs.lent_refusal.Statement.{statement}
+use Rattle.lent.proofs.lent_refusal.Tie as tie
 
 returns : tie.Need-returns
 unfolding lentRefusal

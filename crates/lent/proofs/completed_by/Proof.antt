@@ -1,7 +1,7 @@
-use Rattle.z280.specs.Calls.{completedBy}
+use Rattle.lent.specs.Lent.{completedBy}
 use borrow.Author.Needs.{needs}
-use Rattle.z280.proofs.completed_by.Statement.{statement}
-use Rattle.z280.proofs.completed_by.Tie as tie
+use Rattle.lent.proofs.completed_by.Statement.{statement}
+use Rattle.lent.proofs.completed_by.Tie as tie
 
 returns : tie.Need-returns
 unfolding completedBy

@@ -1,7 +1,7 @@
-use Rattle.z280.proofs.Laws.{twelve, deliver-refused, undelivered, delivered-on}
+use Rattle.lent.proofs.Laws.{twelve, deliver-refused, undelivered, delivered-on}
 use borrow.Author.Needs.{needs}
-use Rattle.z280.proofs.z280_deliver.Statement.{statement}
-use Rattle.z280.proofs.z280_deliver.Tie as tie
+use Rattle.lent.proofs.deliver.Statement.{statement}
+use Rattle.lent.proofs.deliver.Tie as tie
 
 returns : tie.Need-returns
 returns c = deliver-refused _ _ _ _ _ (c .before .before .read-form .ensures) (c .before .lent-refusal .ensures) (c .if1 .taken)
@@ -15,8 +15,8 @@ returns-2 c = undelivered _ _ _ _ _ (c .before .before .before .before .before .
 returns-3 : tie.Need-returns-3
 returns-3 c = delivered-on _ _ _ _ _ (c .before .before .before .before .before .before .before .before .before .before .before .before .before .before .before .read-form .ensures) (c .before .before .before .before .before .before .before .before .before .before .before .before .before .before .lent-refusal .ensures) (c .before .before .before .before .before .before .before .before .before .before .before .before .before .if1 .left) _ (c .before .before .before .before .before .before .before .before .before .before .before .event-in .ensures) _ _ (c .before .before .before .before .before .before .before .before .before .deliver .ensures) (c .before .before .before .before .before .if2 .left) _ _ (c .before .before .write-form .ensures)
 
-pub z280-deliver-spec : {M : Type 1} → statement M
-z280-deliver-spec =
+pub deliver-spec : {M : Type 1} → statement M
+deliver-spec =
     tie.close
     (tie.spec
     (λ c κs. search needs)

@@ -1,7 +1,7 @@
-use Rattle.z280.proofs.Laws.{make-refused, unmade, made-on}
+use Rattle.lent.proofs.Laws.{make-refused, unmade, made-on}
 use borrow.Author.Needs.{needs}
-use Rattle.z280.proofs.z280_make_valid.Statement.{statement}
-use Rattle.z280.proofs.z280_make_valid.Tie as tie
+use Rattle.lent.proofs.make_valid.Statement.{statement}
+use Rattle.lent.proofs.make_valid.Tie as tie
 
 returns : tie.Need-returns
 returns c = make-refused _ _ _ (c .before .before .read-form .ensures) (c .if1 .taken)
@@ -12,8 +12,8 @@ returns-2 c = unmade _ _ _ (c .before .before .before .before .before .before .r
 returns-3 : tie.Need-returns-3
 returns-3 c = made-on _ _ _ (c .before .before .before .before .before .before .before .before .before .before .before .read-form .ensures) (c .before .before .before .before .before .before .before .before .before .if1 .left) _ (c .before .before .before .before .before .before .before .make-valid .ensures) (c .before .before .before .before .before .if2 .left) _ _ (c .before .before .write-form .ensures)
 
-pub z280-make-valid-spec : {M : Type 1} → statement M
-z280-make-valid-spec =
+pub make-valid-spec : {M : Type 1} → statement M
+make-valid-spec =
     tie.close
     (tie.spec
     (λ c κs. search needs)
