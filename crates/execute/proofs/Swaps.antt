@@ -1,5 +1,5 @@
 -- Which operations have to do with the alternate registers; an arm of the match; what is past the last.
-use Prim.Native.Nat.{ℕ, _+_, _≤_}
+use Prim.Native.Nat.{ℕ, _+_, _-_, _≤_}
 use mathlib.Core.Path.{_≡_, refl, sym, _∙_, ap}
 use mathlib.Core.Bool.{Bool, true, false}
 use native.Mathlib.Omega.{arith}
@@ -34,6 +34,13 @@ far k r u i s v h =
 pub arm : (n k : ℕ) (r : Regs) (u : Bool) (i : Ins) (s : Spot) (v : ℕ) (t : Tried) (d e : Done) → t ≡ workedOut d → d ≡ e → k ≡ n →
     workedOut e ≡ triedBy n r u i s v → t ≡ triedBy k r u i s v
 arm n k r u i s v t d e p q h x = p ∙ ap workedOut q ∙ x ∙ ap (λ z. triedBy z r u i s v) (sym h)
+
+-- the last arm of a match of n: the matches behind it
+pub rest-of : (n o k : ℕ) (r : Regs) (u : Bool) (i : Ins) (s : Spot) (v : ℕ) (t : Tried) → n ≤ k → t ≡ triedBy (k - n + (n + o)) r u i s v → t ≡ triedBy (k + o) r u i s v
+rest-of n o k r u i s v t h e = e ∙ ap (λ z. triedBy z r u i s v) (omega (arith, h))
+
+pub rest-first : (n k : ℕ) (r : Regs) (u : Bool) (i : Ins) (s : Spot) (v : ℕ) (t : Tried) → n ≤ k → t ≡ triedBy (k - n + n) r u i s v → t ≡ triedBy k r u i s v
+rest-first n k r u i s v t h e = e ∙ ap (λ z. triedBy z r u i s v) (omega (arith, h))
 
 -- JAF and JAR end with registers alone, whether they jump or not
 quiet-jump : (r : Regs) (t : Bool) (a : ℕ) → quiet ((jumping r t a) .regs) ≡ jumping r t a
