@@ -59,7 +59,8 @@ fn page_of(apart: bool, user: bool, program: bool, a: u16) -> u8
     first_of(user) + k
 }
 
-fn number_of(bits: u8, user: bool, program: bool, a: u16) -> u8
+// The number of the descriptor that an address is translated by.
+pub fn number_of(bits: u8, user: bool, program: bool, a: u16) -> u8
     ensures { λ r. ⌜ r ≡ numberOf bits user program a ⌝ }
     ensures { λ r. ⌜ r < 32 ⌝ }
 {
