@@ -1,18 +1,88 @@
-// A run with a budget: bursts, and after each the step that ended it. Descriptors and tables are copied once.
+// A run with a budget: bursts of at most two steps, and after each the quick steps that follow it. Descriptors and tables are copied once.
 ghost use mathlib.Core.Path.{_≡_};
+ghost use Prim.Native.Nat.{_≤_};
 ghost use Rattle.board.specs.Run.{run};
+ghost use Rattle.mmu.specs.Translate.{modeBits};
 ghost use Rattle.cpu.specs.Program.{program};
 ghost use Rattle.cpu.specs.Machine.{machineState};
-ghost use Rattle.steps.specs.Ran.{ranOf};
+ghost use Rattle.steps.specs.Ran.{ranOf, stepsOf, stopsAt};
+ghost use Rattle.steps.specs.Table.{Table};
 use bus::kinds::Event;
 use cpu::burst::burst;
+use kept::table::alike;
+use kept::table::fill;
+use quick::turns::quick;
+use regs::Control;
 use regs::Machine;
+use regs::Regs;
 
 // The machine after the completed steps, and the event that ended the run.
 pub struct Ran {
     pub machine: Machine,
     pub event: Event,
     pub steps: u16,
+}
+
+fn ended(regs: Regs, ctl: Control, mmu: u16, ds: [u16; 32], event: Event, steps: u16) -> Ran
+    ensures { λ r. ⌜ r ≡ record { machine = record { regs = regs; ctl = ctl; mmu = mmu; ds = ds }; event = event; steps = steps } ⌝ }
+{
+    let machine = Machine { regs, ctl, mmu, ds };
+    Ran {
+        machine,
+        event,
+        steps,
+    }
+}
+
+fn two_of(n: u16) -> u16
+    ensures { λ r. ⌜ r ≤ n ⌝ }
+    ensures { λ r. ⌜ (1 ≤ n → 1 ≤ r) ⌝ }
+{
+    if n < 2 { n } else { 2 }
+}
+
+fn stops(e: Event) -> bool
+    ensures { λ r. ⌜ r ≡ stopsAt e ⌝ }
+{
+    match e {
+        Event::Completed => false,
+        Event::Violation(_, _) => true,
+        Event::Absent(_) => true,
+        Event::Stopped(_) => true,
+    }
+}
+
+fn steps_of(steps: u16, limit: u16) -> u16
+    ensures { λ r. ⌜ r ≡ stepsOf steps limit ⌝ }
+{
+    if steps < limit { steps + 1 } else { steps }
+}
+
+// The table for this mode and these descriptors, filled anew where it is another's. The mode's bits.
+fn refresh(
+    user: bool,
+    control: u16,
+    ds: &[u16; 32],
+    size: usize,
+    user0: bool,
+    bits0: u8,
+    ds0: &[u16; 32],
+    kept: &mut [u32; 48],
+) -> u8
+    requires { ⌜ Table (now kept) user0 bits0 (now ds0) size ⌝ }
+    ensures { λ r. ⌜ Table (now (kept .exit)) user r (now (ds .entry)) size ⌝ }
+    ensures { λ r. ⌜ r ≡ modeBits control user ⌝ }
+{
+    let bits = mmu::mode_bits(control, user);
+    let same = (bits == bits0) & (user == user0);
+    if same {
+        let still = alike(ds0, ds);
+        if still {
+            return bits;
+        }
+    }
+    fill(user, bits, control, ds, size, kept);
+    bits
 }
 
 pub fn run_steps(m: Machine, w: &mut [u8], budget: u16) -> Ran
@@ -23,9 +93,14 @@ pub fn run_steps(m: Machine, w: &mut [u8], budget: u16) -> Ran
     let mut control = m.mmu;
     let mut ds = m.ds;
     let tables = decode::tables();
+    let mut kept = [1u32; 48];
+    let mut kds = m.ds;
+    let mut kbits: u8 = 4; // no mode's: so the first table is filled
+    let mut kuser = false;
     let mut n: u16 = 0;
     while n < budget {
-        let x = burst(r, c, control, &mut ds, w, &tables, budget - n);
+        let limit = two_of(budget - n);
+        let x = burst(r, c, control, &mut ds, w, &tables, limit);
         let t = x.turn;
         let e = t.event;
         let q = t.regs;
@@ -33,33 +108,21 @@ pub fn run_steps(m: Machine, w: &mut [u8], budget: u16) -> Ran
         r = q;
         c = k;
         control = t.mmu;
-        n = n + x.steps;
+        let over = (x.steps < limit) & stops(e);
+        if over {
+            return ended(r, c, control, ds, e, n + x.steps);
+        }
+        n = n + steps_of(x.steps, limit);
         if n < budget {
-            let Event::Completed = e else {
-                let machine = Machine {
-                    regs: r,
-                    ctl: c,
-                    mmu: control,
-                    ds,
-                };
-                return Ran {
-                    machine,
-                    event: e,
-                    steps: n,
-                };
-            };
-            n = n + 1;
+            let user = c.user();
+            kbits = refresh(user, control, &ds, w.len(), kuser, kbits, &kds, &mut kept);
+            kuser = user;
+            kds = ds;
+            let y = quick(r, user, &kept, w, &tables, budget - n);
+            let z = y.regs;
+            r = z;
+            n = n + y.steps;
         }
     }
-    let machine = Machine {
-        regs: r,
-        ctl: c,
-        mmu: control,
-        ds,
-    };
-    Ran {
-        machine,
-        event: Event::Completed,
-        steps: n,
-    }
+    ended(r, c, control, ds, Event::Completed, n)
 }
