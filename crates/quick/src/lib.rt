@@ -1,5 +1,4 @@
-// Quick steps in a row: the fetch of a code over kept places, the step by its operation, the loop.
+// Quick steps in a row: the step by its operation, the loop.
 mod act;
-mod fetch;
 pub mod kinds;
 pub mod turns;

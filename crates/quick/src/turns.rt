@@ -13,8 +13,8 @@ ghost use Rattle.bus.specs.Leave.{stateOf};
 ghost use Rattle.cpu.specs.Program.{program};
 ghost use Rattle.kept.specs.Kept.{Right, Inside};
 use crate::act::act;
-use crate::fetch::code_at;
 use crate::kinds::Quick;
+use quickfetch::code_at;
 use regs::Regs;
 
 fn leave(r: Regs, n: u16) -> Quick

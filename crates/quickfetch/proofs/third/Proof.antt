@@ -1,11 +1,11 @@
--- `quick::fetch::third` meets its contract.
+-- `quickfetch::third` meets its contract.
 use Prim.Native.Nat.{_+_}
 use mathlib.Core.Path.{refl}
 use native.Mathlib.Omega.{arith}
-use Rattle.quick.proofs.Fetching.{reach, at-third, unknown}
+use Rattle.quickfetch.proofs.Fetching.{reach, at-third, unknown}
 use borrow.Author.Needs.{needs}
-use Rattle.quick.proofs.fetch.third.Statement.{statement}
-use Rattle.quick.proofs.fetch.third.Tie as tie
+use Rattle.quickfetch.proofs.third.Statement.{statement}
+use Rattle.quickfetch.proofs.third.Tie as tie
 
 add-fourth : tie.Need-add-fourth
 add-fourth c = omega (arith, reach _ _ _ _ ((c .before .before .before .before .pre .0)) 3 (omega arith))

@@ -1,9 +1,9 @@
--- `quick::fetch::first` meets its contract.
+-- `quickfetch::first` meets its contract.
 use native.Mathlib.Omega.{arith}
-use Rattle.quick.proofs.Fetching.{reach, at-opening, at-first}
+use Rattle.quickfetch.proofs.Fetching.{reach, at-opening, at-first}
 use borrow.Author.Needs.{needs}
-use Rattle.quick.proofs.fetch.first.Statement.{statement}
-use Rattle.quick.proofs.fetch.first.Tie as tie
+use Rattle.quickfetch.proofs.first.Statement.{statement}
+use Rattle.quickfetch.proofs.first.Tie as tie
 
 returns : tie.Need-returns
 returns c = at-opening _ _ _ _ ((c .before .before .before .before .pre .0)) _ ((c .before .before .before .before .pre .1 .1)) (omega (arith, (c .before .before .before .before .fits .b))) _ ((c .opened .ensures))

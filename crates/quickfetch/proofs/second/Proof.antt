@@ -1,9 +1,9 @@
--- `quick::fetch::second` meets its contract.
+-- `quickfetch::second` meets its contract.
 use native.Mathlib.Omega.{arith}
-use Rattle.quick.proofs.Fetching.{reach, at-second}
+use Rattle.quickfetch.proofs.Fetching.{reach, at-second}
 use borrow.Author.Needs.{needs}
-use Rattle.quick.proofs.fetch.second.Statement.{statement}
-use Rattle.quick.proofs.fetch.second.Tie as tie
+use Rattle.quickfetch.proofs.second.Statement.{statement}
+use Rattle.quickfetch.proofs.second.Tie as tie
 
 returns : tie.Need-returns
 returns c = (c .third .ensures)

@@ -8,7 +8,7 @@ use lib.ListN.{length, getD}
 use Rattle.cpu.specs.declared.kinds.Lead.{Lead}
 use Rattle.cpu.specs.declared.kinds.Lead.the-variants as lead
 use Rattle.kept.specs.Kept.{Right, Inside}
-use Rattle.quick.specs.declared.kinds.Fetch.{Fetch}
+use Rattle.quickfetch.specs.declared.Fetch.{Fetch}
 use Rattle.served.specs.Served.{Fetched, before}
 
 -- p is the physical address of the instruction at pc, all of whose bytes lie in one page that is kept for program

@@ -1,11 +1,11 @@
--- `quick::fetch::opened` meets its contract.
+-- `quickfetch::opened` meets its contract.
 use Prim.Native.Nat.{_+_}
 use mathlib.Core.Path.{refl}
 use native.Mathlib.Omega.{arith}
-use Rattle.quick.proofs.Fetching.{reach, at-opened, unknown, opening-small}
+use Rattle.quickfetch.proofs.Fetching.{reach, at-opened, unknown, opening-small}
 use borrow.Author.Needs.{needs}
-use Rattle.quick.proofs.fetch.opened.Statement.{statement}
-use Rattle.quick.proofs.fetch.opened.Tie as tie
+use Rattle.quickfetch.proofs.opened.Statement.{statement}
+use Rattle.quickfetch.proofs.opened.Tie as tie
 
 returns : tie.Need-returns
 returns c = unknown _ _ _ _ ((c .none .ensures))

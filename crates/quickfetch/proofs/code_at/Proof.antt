@@ -1,11 +1,11 @@
--- `quick::fetch::code_at` meets its contract.
+-- `quickfetch::code_at` meets its contract.
 use mathlib.Core.Path.{refl, sym, _∙_}
 use native.Mathlib.Omega.{arith}
 use Rattle.kept.proofs.Kept.{not-both}
-use Rattle.quick.proofs.Fetching.{inside, site}
+use Rattle.quickfetch.proofs.Fetching.{inside, site}
 use borrow.Author.Needs.{needs}
-use Rattle.quick.proofs.fetch.code_at.Statement.{statement}
-use Rattle.quick.proofs.fetch.code_at.Tie as tie
+use Rattle.quickfetch.proofs.code_at.Statement.{statement}
+use Rattle.quickfetch.proofs.code_at.Tie as tie
 
 returns : tie.Need-returns
 returns c = (λ k. absurd (not-both (sym k ∙ (c .none .ensures))), λ k. absurd (not-both (sym k ∙ (c .none .ensures))))

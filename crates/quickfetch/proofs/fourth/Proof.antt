@@ -1,9 +1,9 @@
--- `quick::fetch::fourth` meets its contract.
+-- `quickfetch::fourth` meets its contract.
 use native.Mathlib.Omega.{arith}
-use Rattle.quick.proofs.Fetching.{reach, at-fourth}
+use Rattle.quickfetch.proofs.Fetching.{reach, at-fourth}
 use borrow.Author.Needs.{needs}
-use Rattle.quick.proofs.fetch.fourth.Statement.{statement}
-use Rattle.quick.proofs.fetch.fourth.Tie as tie
+use Rattle.quickfetch.proofs.fourth.Statement.{statement}
+use Rattle.quickfetch.proofs.fourth.Tie as tie
 
 add-code : tie.Need-add-code
 add-code c = omega (arith, (c .before .before .pre .0) .room)

@@ -10,9 +10,14 @@ ghost use Rattle.cpu.specs.Lead.{leadThird, leadSecond, leadFirst, leadOf};
 ghost use Rattle.cpu.specs.declared.kinds.Lead.the-variants as lead;
 ghost use Rattle.kept.specs.Kept.{Right, Inside};
 ghost use Rattle.served.specs.Served.{Fetched, before};
-ghost use Rattle.quick.specs.Fetch.{Site, Leads};
-use crate::kinds::Fetch;
+ghost use Rattle.quickfetch.specs.Fetch.{Site, Leads};
 use served::kinds::Code;
+
+// A code; where it isn't known, none.
+pub struct Fetch {
+    pub known: bool,
+    pub code: Code,
+}
 
 fn code(e: u16, o: u8, b: u8, at: u16, p: usize) -> Fetch
     ensures { λ x. ⌜ x ≡ record { known = true; code = record { e = e; o = o; b = b; at = at; p = p } } ⌝ }

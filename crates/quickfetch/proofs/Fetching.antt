@@ -18,9 +18,9 @@ use Rattle.cpu.specs.Lead.{leadBy, leadFourth, leadThird, leadSecond, leadFirst
 use Rattle.cpu.proofs.Leads.{opens-nothing}
 use Rattle.kept.specs.Kept.{Right, Inside}
 use Rattle.kept.proofs.Kept.{not-both}
-use Rattle.quick.specs.declared.kinds.Fetch.{Fetch}
+use Rattle.quickfetch.specs.declared.Fetch.{Fetch}
 use Rattle.served.specs.Served.{Stands, before}
-use Rattle.quick.specs.Fetch.{Site, Leads}
+use Rattle.quickfetch.specs.Fetch.{Site, Leads}
 use Rattle.served.proofs.Bytes.{one}
 
 -- ── openings ──
