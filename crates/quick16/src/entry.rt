@@ -1,17 +1,17 @@
-// The entries of the decode tables that have quick steps, in the order of their operations. HL, BC, DE, SX, NN say where the operand lies.
+// The entries of the decode tables that have quick steps, in the order of their operations. HL, BC, DE, SX and DA say where the operand lies.
 pub const EX_DE_HL: u16 = 17408;
 
 pub const EX_SP: u16 = 18800;
 
-pub const LD_XX_NN: u16 = 20242;
+pub const LD_XX_DA: u16 = 20242;
 
-pub const LD_NN_XX: u16 = 20498;
+pub const LD_DA_XX: u16 = 20498;
 
-pub const LD_RR: u16 = 20994;
+pub const LD_RR_NN: u16 = 20994;
 
-pub const LD_RR_NN: u16 = 21778;
+pub const LD_RR_DA: u16 = 21778;
 
-pub const LD_NN_RR: u16 = 22034;
+pub const LD_DA_RR: u16 = 22034;
 
 pub const LD_SP_XX: u16 = 23040;
 

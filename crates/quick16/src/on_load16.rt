@@ -2,12 +2,12 @@
 ghost use Rattle.served.specs.Served.{Fetched, Served};
 use crate::entry::EX_DE_HL;
 use crate::entry::EX_SP;
-use crate::entry::LD_NN_RR;
-use crate::entry::LD_NN_XX;
-use crate::entry::LD_RR;
+use crate::entry::LD_DA_RR;
+use crate::entry::LD_DA_XX;
+use crate::entry::LD_RR_DA;
 use crate::entry::LD_RR_NN;
 use crate::entry::LD_SP_XX;
-use crate::entry::LD_XX_NN;
+use crate::entry::LD_XX_DA;
 use crate::entry::POP_RR;
 use crate::entry::PUSH_RR;
 use kept::access::Found;
@@ -61,11 +61,11 @@ pub fn ex_sp(r: Regs, c: Code, u: bool, kept: &[u32; 48], w: &mut [u8]) -> Acted
     done(q)
 }
 
-pub fn ld_xx_nn(r: Regs, c: Code, u: bool, kept: &[u32; 48], w: &[u8]) -> Acted
+pub fn ld_xx_da(r: Regs, c: Code, u: bool, kept: &[u32; 48], w: &[u8]) -> Acted
     requires { ⌜ Fetched (now kept) (now w) c ⌝ }
     ensures { λ x. ⌜ Served (now (kept .entry)) u r c (now (w .entry)) (now (w .entry)) x ⌝ }
 {
-    let known = c.e == LD_XX_NN;
+    let known = c.e == LD_XX_DA;
     if !known {
         return none(r);
     }
@@ -80,11 +80,11 @@ pub fn ld_xx_nn(r: Regs, c: Code, u: bool, kept: &[u32; 48], w: &[u8]) -> Acted
     done(q)
 }
 
-pub fn ld_nn_xx(r: Regs, c: Code, u: bool, kept: &[u32; 48], w: &mut [u8]) -> Acted
+pub fn ld_da_xx(r: Regs, c: Code, u: bool, kept: &[u32; 48], w: &mut [u8]) -> Acted
     requires { ⌜ Fetched (now kept) (now w) c ⌝ }
     ensures { λ x. ⌜ Served (now (kept .entry)) u r c (now (w .entry)) (now (w .exit)) x ⌝ }
 {
-    let known = c.e == LD_NN_XX;
+    let known = c.e == LD_DA_XX;
     if !known {
         return none(r);
     }
@@ -100,11 +100,11 @@ pub fn ld_nn_xx(r: Regs, c: Code, u: bool, kept: &[u32; 48], w: &mut [u8]) -> Ac
     done(q)
 }
 
-pub fn ld_rr(r: Regs, c: Code, u: bool, kept: &[u32; 48], w: &[u8]) -> Acted
+pub fn ld_rr_nn(r: Regs, c: Code, u: bool, kept: &[u32; 48], w: &[u8]) -> Acted
     requires { ⌜ Fetched (now kept) (now w) c ⌝ }
     ensures { λ x. ⌜ Served (now (kept .entry)) u r c (now (w .entry)) (now (w .entry)) x ⌝ }
 {
-    let known = c.e == LD_RR;
+    let known = c.e == LD_RR_NN;
     if !known {
         return none(r);
     }
@@ -114,11 +114,11 @@ pub fn ld_rr(r: Regs, c: Code, u: bool, kept: &[u32; 48], w: &[u8]) -> Acted
     done(q)
 }
 
-pub fn ld_rr_nn(r: Regs, c: Code, u: bool, kept: &[u32; 48], w: &[u8]) -> Acted
+pub fn ld_rr_da(r: Regs, c: Code, u: bool, kept: &[u32; 48], w: &[u8]) -> Acted
     requires { ⌜ Fetched (now kept) (now w) c ⌝ }
     ensures { λ x. ⌜ Served (now (kept .entry)) u r c (now (w .entry)) (now (w .entry)) x ⌝ }
 {
-    let known = c.e == LD_RR_NN;
+    let known = c.e == LD_RR_DA;
     if !known {
         return none(r);
     }
@@ -133,11 +133,11 @@ pub fn ld_rr_nn(r: Regs, c: Code, u: bool, kept: &[u32; 48], w: &[u8]) -> Acted
     done(q)
 }
 
-pub fn ld_nn_rr(r: Regs, c: Code, u: bool, kept: &[u32; 48], w: &mut [u8]) -> Acted
+pub fn ld_da_rr(r: Regs, c: Code, u: bool, kept: &[u32; 48], w: &mut [u8]) -> Acted
     requires { ⌜ Fetched (now kept) (now w) c ⌝ }
     ensures { λ x. ⌜ Served (now (kept .entry)) u r c (now (w .entry)) (now (w .exit)) x ⌝ }
 {
-    let known = c.e == LD_NN_RR;
+    let known = c.e == LD_DA_RR;
     if !known {
         return none(r);
     }

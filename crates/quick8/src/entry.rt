@@ -1,11 +1,11 @@
-// The entries of the decode tables that have quick steps, in the order of their operations. HL, BC, DE, SX, NN say where the operand lies.
-pub const LD_A_NN: u16 = 13970;
+// The entries of the decode tables that have quick steps, in the order of their operations. HL, BC, DE, SX and DA say where the operand lies.
+pub const LD_A_DA: u16 = 13970;
 
 pub const LD_A_BC: u16 = 14048;
 
 pub const LD_A_DE: u16 = 14056;
 
-pub const LD_NN_A: u16 = 14354;
+pub const LD_DA_A: u16 = 14354;
 
 pub const LD_BC_A: u16 = 14432;
 

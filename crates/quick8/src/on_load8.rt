@@ -1,13 +1,13 @@
 // The 8 bit load group.
 ghost use Rattle.served.specs.Served.{Fetched, Served};
 use crate::entry::LD_A_BC;
+use crate::entry::LD_A_DA;
 use crate::entry::LD_A_DE;
-use crate::entry::LD_A_NN;
 use crate::entry::LD_BC_A;
+use crate::entry::LD_DA_A;
 use crate::entry::LD_DE_A;
 use crate::entry::LD_HL_N;
 use crate::entry::LD_HL_R;
-use crate::entry::LD_NN_A;
 use crate::entry::LD_R_HL;
 use crate::entry::LD_R_N;
 use crate::entry::LD_R_R;
@@ -214,11 +214,11 @@ fn ld_a_de(r: Regs, c: Code, u: bool, kept: &[u32; 48], w: &[u8]) -> Acted
     done(q)
 }
 
-fn ld_a_nn(r: Regs, c: Code, u: bool, kept: &[u32; 48], w: &[u8]) -> Acted
+fn ld_a_da(r: Regs, c: Code, u: bool, kept: &[u32; 48], w: &[u8]) -> Acted
     requires { ⌜ Fetched (now kept) (now w) c ⌝ }
     ensures { λ x. ⌜ Served (now (kept .entry)) u r c (now (w .entry)) (now (w .entry)) x ⌝ }
 {
-    let known = c.e == LD_A_NN;
+    let known = c.e == LD_A_DA;
     if !known {
         return none(r);
     }
@@ -273,11 +273,11 @@ fn ld_de_a(r: Regs, c: Code, u: bool, kept: &[u32; 48], w: &mut [u8]) -> Acted
     done(q)
 }
 
-fn ld_nn_a(r: Regs, c: Code, u: bool, kept: &[u32; 48], w: &mut [u8]) -> Acted
+fn ld_da_a(r: Regs, c: Code, u: bool, kept: &[u32; 48], w: &mut [u8]) -> Acted
     requires { ⌜ Fetched (now kept) (now w) c ⌝ }
     ensures { λ x. ⌜ Served (now (kept .entry)) u r c (now (w .entry)) (now (w .exit)) x ⌝ }
 {
-    let known = c.e == LD_NN_A;
+    let known = c.e == LD_DA_A;
     if !known {
         return none(r);
     }
@@ -338,7 +338,7 @@ pub fn ld_a_m(r: Regs, c: Code, u: bool, kept: &[u32; 48], w: &[u8]) -> Acted
     if de {
         return ld_a_de(r, c, u, kept, w);
     }
-    ld_a_nn(r, c, u, kept, w)
+    ld_a_da(r, c, u, kept, w)
 }
 
 pub fn ld_m_a(r: Regs, c: Code, u: bool, kept: &[u32; 48], w: &mut [u8]) -> Acted
@@ -353,5 +353,5 @@ pub fn ld_m_a(r: Regs, c: Code, u: bool, kept: &[u32; 48], w: &mut [u8]) -> Acte
     if de {
         return ld_de_a(r, c, u, kept, w);
     }
-    ld_nn_a(r, c, u, kept, w)
+    ld_da_a(r, c, u, kept, w)
 }

@@ -1,4 +1,4 @@
-// The entries of the decode tables that have quick steps, in the order of their operations. HL, BC, DE, SX, NN say where the operand lies.
+// The entries of the decode tables that have quick steps, in the order of their operations. HL, BC, DE, SX and DA say where the operand lies.
 pub const BIT_R: u16 = 45568;
 
 pub const BIT_HL: u16 = 46216;

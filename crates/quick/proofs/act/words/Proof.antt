@@ -9,20 +9,20 @@ ex-de-hl-requires c κs = (c .before .before .before .before .pre)
 ex-sp-requires : tie.Need-ex-sp-requires
 ex-sp-requires c κs = (c .before .before .before .before .pre)
 
-ld-xx-nn-requires : tie.Need-ld-xx-nn-requires
-ld-xx-nn-requires c κs = (c .before .before .before .before .pre)
+ld-xx-da-requires : tie.Need-ld-xx-da-requires
+ld-xx-da-requires c κs = (c .before .before .before .before .pre)
 
-ld-nn-xx-requires : tie.Need-ld-nn-xx-requires
-ld-nn-xx-requires c κs = (c .before .before .before .before .pre)
-
-ld-rr-requires : tie.Need-ld-rr-requires
-ld-rr-requires c κs = (c .before .before .before .before .pre)
+ld-da-xx-requires : tie.Need-ld-da-xx-requires
+ld-da-xx-requires c κs = (c .before .before .before .before .pre)
 
 ld-rr-nn-requires : tie.Need-ld-rr-nn-requires
 ld-rr-nn-requires c κs = (c .before .before .before .before .pre)
 
-ld-nn-rr-requires : tie.Need-ld-nn-rr-requires
-ld-nn-rr-requires c κs = (c .before .before .before .before .pre)
+ld-rr-da-requires : tie.Need-ld-rr-da-requires
+ld-rr-da-requires c κs = (c .before .before .before .before .pre)
+
+ld-da-rr-requires : tie.Need-ld-da-rr-requires
+ld-da-rr-requires c κs = (c .before .before .before .before .pre)
 
 ld-sp-xx-requires : tie.Need-ld-sp-xx-requires
 ld-sp-xx-requires c κs = (c .before .before .before .before .pre)
@@ -49,19 +49,19 @@ returns-2 : tie.Need-returns-2
 returns-2 c = (c .before .before .ex-sp .ensures)
 
 returns-3 : tie.Need-returns-3
-returns-3 c = (c .ld-xx-nn .ensures)
+returns-3 c = (c .ld-xx-da .ensures)
 
 returns-4 : tie.Need-returns-4
-returns-4 c = (c .before .before .ld-nn-xx .ensures)
+returns-4 c = (c .before .before .ld-da-xx .ensures)
 
 returns-5 : tie.Need-returns-5
-returns-5 c = (c .ld-rr .ensures)
+returns-5 c = (c .ld-rr-nn .ensures)
 
 returns-6 : tie.Need-returns-6
-returns-6 c = (c .ld-rr-nn .ensures)
+returns-6 c = (c .ld-rr-da .ensures)
 
 returns-7 : tie.Need-returns-7
-returns-7 c = (c .before .before .ld-nn-rr .ensures)
+returns-7 c = (c .before .before .ld-da-rr .ensures)
 
 returns-8 : tie.Need-returns-8
 returns-8 c = (c .ld-sp-xx .ensures)
@@ -82,4 +82,4 @@ returns-13 : tie.Need-returns-13
 returns-13 c = (c .before .before .sums .ensures)
 
 pub words-spec : {M : Type 1} → statement M
-words-spec = tie.close (tie.spec (λ c. search needs) ex-de-hl-requires ex-sp-requires ld-xx-nn-requires ld-nn-xx-requires ld-rr-requires ld-rr-nn-requires ld-nn-rr-requires ld-sp-xx-requires pop-rr-requires push-rr-requires ldi-requires ldir-requires sums-requires (λ c. search needs) returns (λ c. search needs) returns-2 (λ c. search needs) returns-3 (λ c. search needs) returns-4 (λ c. search needs) returns-5 (λ c. search needs) returns-6 (λ c. search needs) returns-7 (λ c. search needs) returns-8 (λ c. search needs) returns-9 (λ c. search needs) returns-10 (λ c. search needs) returns-11 (λ c. search needs) returns-12 (λ c. search needs) returns-13)
+words-spec = tie.close (tie.spec (λ c. search needs) ex-de-hl-requires ex-sp-requires ld-xx-da-requires ld-da-xx-requires ld-rr-nn-requires ld-rr-da-requires ld-da-rr-requires ld-sp-xx-requires pop-rr-requires push-rr-requires ldi-requires ldir-requires sums-requires (λ c. search needs) returns (λ c. search needs) returns-2 (λ c. search needs) returns-3 (λ c. search needs) returns-4 (λ c. search needs) returns-5 (λ c. search needs) returns-6 (λ c. search needs) returns-7 (λ c. search needs) returns-8 (λ c. search needs) returns-9 (λ c. search needs) returns-10 (λ c. search needs) returns-11 (λ c. search needs) returns-12 (λ c. search needs) returns-13)

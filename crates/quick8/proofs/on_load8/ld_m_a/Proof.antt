@@ -10,7 +10,7 @@ returns-2 : tie.Need-returns-2
 returns-2 c = (c .before .before .ld-de-a .ensures)
 
 returns-3 : tie.Need-returns-3
-returns-3 c = (c .before .before .ld-nn-a .ensures)
+returns-3 c = (c .before .before .ld-da-a .ensures)
 
 pub ld-m-a-spec : {M : Type 1} → statement M
 ld-m-a-spec = tie.close (tie.spec (λ c κs. search needs) (λ c. search needs) returns (λ c κs. search needs) (λ c. search needs) returns-2 (λ c κs. search needs) (λ c. search needs) returns-3)

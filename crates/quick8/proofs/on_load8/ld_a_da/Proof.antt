@@ -1,4 +1,4 @@
--- `quick8::on_load8::ld_a_nn` meets its contract.
+-- `quick8::on_load8::ld_a_da` meets its contract.
 use mathlib.Core.Path.{refl, _∙_, ap}
 use native.Mathlib.Omega.{arith}
 use borrow.Author.Tests.{not-false, not-true}
@@ -9,8 +9,8 @@ use Rattle.execute.specs.Execute.{executeBy, executeOf}
 use Rattle.load8.specs.Load8.{ldAM}
 use Rattle.served.proofs.Serving.{at-direct, declines, moves, no-write}
 use borrow.Author.Needs.{needs}
-use Rattle.quick8.proofs.on_load8.ld_a_nn.Statement.{statement}
-use Rattle.quick8.proofs.on_load8.ld_a_nn.Tie as tie
+use Rattle.quick8.proofs.on_load8.ld_a_da.Statement.{statement}
+use Rattle.quick8.proofs.on_load8.ld_a_da.Tie as tie
 
 returns : tie.Need-returns
 returns c = declines _ _ _ _ _ _ _ (c .none .ensures) refl
@@ -28,5 +28,5 @@ returns-3 : tie.Need-returns-3
 unfolding insOf count spotOf executeOf executeBy ldAM
 returns-3 c = moves _ _ _ _ _ (c .before .before .before .before .before .before .before .before .before .before .before .before .before .before .pre) 13970 2 _ _ _ _ (not-false _ (c .before .before .before .before .before .before .before .before .before .before .before .if1 .left)) (c .before .before .before .before .before .before .before .before .before .before .ins2 .ensures) (c .before .before .before .with-pc .ensures) _ _ (λ t i s v. ldAM t v) _ (at-direct _ _ (c .before .before .before .before .before .before .before .before .before .before .before .before .before .before .args .u) (c .before .before .before .before .before .before .before .before .before .before .before .before .before .before .args .r) _ (c .before .before .before .before .before .before .before .before .before .before .before .before .before .before .pre) 13970 2 _ (not-false _ (c .before .before .before .before .before .before .before .before .before .before .before .if1 .left)) (c .before .before .before .before .before .before .before .before .before .before .ins2 .ensures) _ _ _ (c .before .before .before .before .before .before .before .before .data-at .ensures) (c .before .before .before .before .before .before .before .before .before .low16 .ensures)) (c .before .before .ld-a-m .ensures) 1 ((c .before .before .before .before .before .before .before .byte-at .ensures) _ (c .before .before .before .before .before .g .given .1)) (λ user mmu ds R. no-write _ _ _ (c .before .before .ld-a-m .ensures) refl user mmu ds) (c .done .ensures) (refl, (refl, (refl, (refl, omega arith)))) refl refl refl
 
-pub ld-a-nn-spec : {M : Type 1} → statement M
-ld-a-nn-spec = tie.close (tie.spec (λ c κs. search needs) returns ins2-requires (λ c κs. search needs) (λ c κs. search needs) byte-at-requires (λ c. search needs) (λ c. search needs) (λ c κs. search needs) returns-2 (λ c κs. search needs) (λ c. search needs) (λ c κs. search needs) (λ c κs. search needs) returns-3)
+pub ld-a-da-spec : {M : Type 1} → statement M
+ld-a-da-spec = tie.close (tie.spec (λ c κs. search needs) returns ins2-requires (λ c κs. search needs) (λ c κs. search needs) byte-at-requires (λ c. search needs) (λ c. search needs) (λ c κs. search needs) returns-2 (λ c κs. search needs) (λ c. search needs) (λ c κs. search needs) (λ c κs. search needs) returns-3)
