@@ -1,4 +1,3 @@
 pub mod Leads
 pub mod Ways
-pub mod Loop
-pub mod Straight
+pub mod Stepping

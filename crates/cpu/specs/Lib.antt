@@ -1,5 +1,4 @@
 pub mod Program
 pub mod Lead
 pub mod Turns
-pub mod Burst
 pub mod Machine

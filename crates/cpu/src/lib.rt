@@ -1,6 +1,6 @@
-// The processor: the stages of a step, and steps in a row.
-pub mod burst;
+// The processor: a step and its stages.
 pub mod fetch;
 pub mod kinds;
 pub mod stages;
+pub mod step;
 mod turns;

@@ -1,8 +1,7 @@
 -- What a run leaves, against the definition's.
-use Prim.Native.Nat.{ℕ, _+_}
-use mathlib.Core.Bool.{Bool, true, false, cond}
+use Prim.Native.Nat.{ℕ}
+use mathlib.Core.Bool.{Bool, true, false}
 use mathlib.Core.List.{List}
-use lib.Dec.{ltb}
 use Rattle.board.specs.Run as n
 use Rattle.bus.specs.declared.kinds.Event.{Event}
 use Rattle.bus.specs.declared.kinds.Event.the-variants.{Completed, Violation, Absent, Stopped}
@@ -13,10 +12,6 @@ use Rattle.steps.specs.declared.Ran.{Ran}
 
 abbrev pub ranOf : Ran → (w : List ℕ) → n.Ran real
 ranOf r w = record { state = machineState (r .machine) w; event = eventOf (r .event); steps = r .steps }
-
--- the steps that a burst took: under the limit its turn is one more
-unfoldable pub stepsOf : (steps limit : ℕ) → ℕ
-stepsOf steps limit = cond (ltb steps limit) (steps + 1) steps
 
 -- whether an event ends a run
 unfoldable pub stopsAt : Event → Bool

@@ -1,14 +1,13 @@
-// A run with a budget: bursts of at most two steps, and after each the quick steps that follow it. Descriptors and tables are copied once.
+// A run with a budget: a step by its stages, the quick steps that follow it, and again. Descriptors and tables are copied once.
 ghost use mathlib.Core.Path.{_≡_};
-ghost use Prim.Native.Nat.{_≤_};
 ghost use Rattle.board.specs.Run.{run};
 ghost use Rattle.mmu.specs.Translate.{modeBits};
 ghost use Rattle.cpu.specs.Program.{program};
 ghost use Rattle.cpu.specs.Machine.{machineState};
-ghost use Rattle.steps.specs.Ran.{ranOf, stepsOf, stopsAt};
+ghost use Rattle.steps.specs.Ran.{ranOf, stopsAt};
 ghost use Rattle.steps.specs.Table.{Table};
 use bus::kinds::Event;
-use cpu::burst::burst;
+use cpu::step::step;
 use kept::table::alike;
 use kept::table::fill;
 use quick::turns::quick;
@@ -34,13 +33,6 @@ fn ended(regs: Regs, ctl: Control, mmu: u16, ds: [u16; 32], event: Event, steps:
     }
 }
 
-fn two_of(n: u16) -> u16
-    ensures { λ r. ⌜ r ≤ n ⌝ }
-    ensures { λ r. ⌜ (1 ≤ n → 1 ≤ r) ⌝ }
-{
-    if n < 2 { n } else { 2 }
-}
-
 fn stops(e: Event) -> bool
     ensures { λ r. ⌜ r ≡ stopsAt e ⌝ }
 {
@@ -50,12 +42,6 @@ fn stops(e: Event) -> bool
         Event::Absent(_) => true,
         Event::Stopped(_) => true,
     }
-}
-
-fn steps_of(steps: u16, limit: u16) -> u16
-    ensures { λ r. ⌜ r ≡ stepsOf steps limit ⌝ }
-{
-    if steps < limit { steps + 1 } else { steps }
 }
 
 // The table for this mode and these descriptors, filled anew where it is another's. The mode's bits.
@@ -99,20 +85,18 @@ pub fn run_steps(m: Machine, w: &mut [u8], budget: u16) -> Ran
     let mut kuser = false;
     let mut n: u16 = 0;
     while n < budget {
-        let limit = two_of(budget - n);
-        let x = burst(r, c, control, &mut ds, w, &tables, limit);
-        let t = x.turn;
+        let t = step(r, c, control, &mut ds, w, &tables);
         let e = t.event;
         let q = t.regs;
         let k = t.ctl;
+        let over = stops(e);
+        if over {
+            return ended(q, k, t.mmu, ds, e, n);
+        }
         r = q;
         c = k;
         control = t.mmu;
-        let over = (x.steps < limit) & stops(e);
-        if over {
-            return ended(r, c, control, ds, e, n + x.steps);
-        }
-        n = n + steps_of(x.steps, limit);
+        n = n + 1;
         if n < budget {
             let user = c.user();
             kbits = refresh(user, control, &ds, w.len(), kuser, kbits, &kds, &mut kept);
