@@ -76,12 +76,12 @@ pub fn push_withheld(t: Tally) -> Tally {
     let e = a.event;
     let t = t.note(b"P11: first event", number(e), 1);
     let t = t.note(b"P11: carries", machines::carries(e), 0x00002000);
-    let made = deliver::make_valid(a.machine, 0);
+    let made = valid::make_valid(a.machine, 0);
     let b = host::run(made.machine, &mut w, 1);
     let e = b.event;
     let t = t.note(b"P11: second event", number(e), 1);
     let t = t.note(b"P11: carries", machines::carries(e), 0x00012000);
-    let made = deliver::make_valid(b.machine, 1);
+    let made = valid::make_valid(b.machine, 1);
     let c = host::run(made.machine, &mut w, 1);
     let e = c.event;
     let next = c.machine;

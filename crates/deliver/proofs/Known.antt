@@ -1,4 +1,4 @@
--- The known steps: without translation each byte goes to its own address.
+-- The known step: without translation each byte goes to its own address.
 use Prim.Native.Nat.{ℕ, _+_, _/_, _%_, _<_, _≤_}
 use mathlib.Core.Path.{_≡_, refl, sym, _∙_, ap}
 use mathlib.Core.Bool.{false}
@@ -15,12 +15,12 @@ use Rattle.board.specs.declared.Got.the-variants.{Byte}
 use Rattle.board.specs.Program.{through, ifRoom}
 use Rattle.bus.specs.declared.kinds.Event.the-variants.{Stopped}
 use Rattle.bus.specs.Access.{next, roomFor}
-use Rattle.deliver.specs.declared.saves.Pair.the-variants.{At}
-use Rattle.deliver.specs.Deliver.{Outcome, outcome, stopped, trapOf, vectorAt, saved, taken, deliverOf}
-use Rattle.deliver.specs.Words.{pairWith, pairOf, pairFor, markedWord, storedWord, entering, storeOne, storeTwo, storeThree}
-use Rattle.deliver.specs.Valid.{makeValid}
-use Rattle.deliver.specs.Known.{six, Called, SystemCall, LastDescriptor}
-use Rattle.deliver.proofs.Stack.{stored-length, ends-3}
+use Rattle.saves.specs.declared.places.Pair.the-variants.{At}
+use Rattle.saves.specs.Saves.{Outcome, outcome, vectorAt, saved}
+use Rattle.saves.specs.Words.{pairWith, pairOf, pairFor, markedWord, storedWord, entering, storeOne, storeTwo, storeThree}
+use Rattle.saves.proofs.Stack.{stored-length, ends-3}
+use Rattle.deliver.specs.Deliver.{stopped, trapOf, taken, deliverOf}
+use Rattle.deliver.specs.Known.{six, Called, SystemCall}
 
 -- ── bytes of a word that was stored ──
 
@@ -116,7 +116,3 @@ unfolding deliverOf taken trapOf stopped
 system-call m w to framed allowed long room sp off =
     shown m w to long room sp off (deliverOf m w (Stopped (Call 0x1234 to)))
     (rw (framed, allowed) (saves m w to long room sp off))
-
-pub last-descriptor : LastDescriptor
-unfolding makeValid
-last-descriptor m allowed invalid = (rw (allowed, invalid), rw allowed)

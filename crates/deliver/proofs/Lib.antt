@@ -1,4 +1,2 @@
-pub mod Descriptor
 pub mod Known
-pub mod Stack
 pub mod Unique

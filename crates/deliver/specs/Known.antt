@@ -1,16 +1,16 @@
--- Document 01, "Known steps": the system call that is delivered, and the last descriptor made valid.
+-- Document 01, "Known steps": the system call that is delivered.
 use Prim.Native.Nat.{ℕ, _+_, _/_, _%_, _<_, _≤_}
 use mathlib.Core.Path.{_≡_}
 use mathlib.Core.Bool.{true, false}
 use mathlib.Core.List.{List, [], _∷_}
 use lib.ListN.{length, getD}
 use Rattle.regs.specs.declared.Machine.{Machine}
-use Rattle.mmu.specs.Translate.{bit, valid}
+use Rattle.mmu.specs.Translate.{bit}
 use Rattle.plan.specs.declared.kinds.Stop.the-variants.{Call}
 use Rattle.bus.specs.declared.kinds.Event.the-variants.{Stopped}
 use Rattle.legal.specs.Legal.{wholeFrames, allowedBits}
-use Rattle.deliver.specs.Deliver.{Outcome, vectorAt, deliverOf}
-use Rattle.deliver.specs.Valid.{unmade, madeValid, makeValid}
+use Rattle.saves.specs.Saves.{Outcome, vectorAt}
+use Rattle.deliver.specs.Deliver.{deliverOf}
 
 -- the six bytes from 1FFAh upward
 abbrev pub six : List ℕ → List ℕ
@@ -28,9 +28,3 @@ SystemCall =
     (m : Machine) (w : List ℕ) (next : ℕ) → wholeFrames (length w) ≡ true → allowedBits m ≡ true →
     0x2000 ≤ length w → vectorAt (m .ctl) 0x50 + 3 < length w → m .regs .ssp ≡ 0x2000 → bit 0x0800 (m .mmu) ≡ false →
     Called m next (deliverOf m w (Stopped (Call 0x1234 next)))
-
--- descriptor 31 can be made valid, 32 is refusal 6
-abbrev pub LastDescriptor : Type 0
-LastDescriptor =
-    (m : Machine) → allowedBits m ≡ true → valid (getD (m .ds) 31 0) ≡ false →
-    (makeValid m 31 ≡ record { refusal = 0; machine = madeValid m 31 }) × (makeValid m 32 ≡ unmade 6 m)

@@ -1,4 +1,2 @@
 pub mod Deliver
 pub mod Known
-pub mod Valid
-pub mod Words

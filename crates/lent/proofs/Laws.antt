@@ -14,10 +14,11 @@ use Rattle.form.specs.declared.Restored.{Restored}
 use Rattle.form.specs.Form.{widths, fieldsOf, writeRefusal, written, readForm}
 use Rattle.events.specs.Bytes.{eventIn}
 use Rattle.bus.specs.declared.kinds.Event.{Event}
-use Rattle.deliver.specs.declared.Delivered.{Delivered}
-use Rattle.deliver.specs.declared.Made.{Made}
-use Rattle.deliver.specs.Deliver as d
-use Rattle.deliver.specs.Valid.{makeValid}
+use Rattle.valid.specs.declared.Made.{Made}
+use Rattle.valid.specs.Valid.{makeValid}
+use Rattle.saves.specs.declared.Delivered.{Delivered}
+use Rattle.saves.specs.Saves.{outcome}
+use Rattle.deliver.specs.Deliver.{deliverOf}
 use Rattle.lent.specs.Lent.{formed, resetForm, lentRefusal, moved, deliveredBack, deliverRead, deliverForm, madeBack, makeRead, makeForm}
 
 -- ---- the buffers
@@ -42,7 +43,7 @@ module _ (s w e : List ℕ) (a : Restored) (k : ℕ) (p : a ≡ readForm s) (q :
   unfolding deliverForm deliverRead
   deliver-refused t = rw (← p, ← q, not-true (eqb k 0) t)
 
-  module _ (t : not (eqb k 0) ≡ false) (v : Event) (y : v ≡ eventIn e) (r : Delivered) (w′ : List ℕ) (x : d.outcome r w′ ≡ d.deliverOf (a .machine) w v) where
+  module _ (t : not (eqb k 0) ≡ false) (v : Event) (y : v ≡ eventIn e) (r : Delivered) (w′ : List ℕ) (x : outcome r w′ ≡ deliverOf (a .machine) w v) where
     pub undelivered : not (eqb (r .refusal) 0) ≡ true → moved (r .refusal) s w′ ≡ deliverForm s w e
     unfolding deliverForm deliverRead deliveredBack
     undelivered u = rw (← p, ← q, not-false (eqb k 0) t, ← y, ← x, not-true (eqb (r .refusal) 0) u)

@@ -13,9 +13,10 @@ use Rattle.form.specs.declared.Restored.{Restored}
 use Rattle.form.specs.Form.{formLength, mostFrames, widths, fieldsOf, written, readForm}
 use Rattle.events.specs.Events.{eventNumbers}
 use Rattle.events.specs.Bytes.{answerLength, eventIn}
-use Rattle.deliver.specs.declared.Made.{Made}
-use Rattle.deliver.specs.Deliver as d
-use Rattle.deliver.specs.Valid.{makeValid}
+use Rattle.valid.specs.declared.Made.{Made}
+use Rattle.valid.specs.Valid.{makeValid}
+use Rattle.saves.specs.Saves.{Outcome}
+use Rattle.deliver.specs.Deliver.{deliverOf}
 
 -- ── reset: 3 unless the form has 101 bytes, then 1 unless frames is 1 to 16; no old byte is looked at ──
 
@@ -53,14 +54,14 @@ pub record Moved : Type 0 where
 abbrev pub moved : (refusal : ℕ) (s w : List ℕ) → Moved
 moved refusal s w = record { refusal = refusal; form = s; memory = w }
 
-unfoldable pub deliveredBack : (frames : ℕ) (s : List ℕ) → d.Outcome → Moved
+unfoldable pub deliveredBack : (frames : ℕ) (s : List ℕ) → Outcome → Moved
 deliveredBack frames s o =
     moved (o .answer .refusal) (cond (eqb (o .answer .refusal) 0) (written (o .answer .machine) frames s) s) (o .memory)
 
 unfoldable pub deliverRead : (a : Restored) (s w e : List ℕ) → Moved
 deliverRead a s w e =
     cond (eqb (lentRefusal a (length w) (length e)) 0)
-    (deliveredBack (a .frames) s (d.deliverOf (a .machine) w (eventIn e)))
+    (deliveredBack (a .frames) s (deliverOf (a .machine) w (eventIn e)))
     (moved (lentRefusal a (length w) (length e)) s w)
 
 unfoldable pub deliverForm : (s w e : List ℕ) → Moved

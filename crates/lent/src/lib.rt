@@ -79,7 +79,7 @@ pub fn make_valid(form: &mut [u8], descriptor: u8) -> u8
         return a.refusal;
     }
     let m = a.machine;
-    let r = deliver::make_valid(m, descriptor);
+    let r = valid::make_valid(m, descriptor);
     let unmade = r.refusal != 0;
     if unmade {
         return r.refusal;

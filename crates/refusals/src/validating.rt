@@ -6,13 +6,13 @@ use cases::tally::Tally;
 use regs::Machine;
 
 fn make(t: Tally, name: &[u8], m: Machine, n: u8, expected: u32) -> Tally {
-    let a = deliver::make_valid(m, n);
+    let a = valid::make_valid(m, n);
     t.note(name, a.refusal as u32, expected)
 }
 
 pub fn made(t: Tally) -> Tally {
     let t = make(t, b"make valid: descriptor 0", machines::reset(), 0, 0);
-    let a = deliver::make_valid(machines::reset(), 31);
+    let a = valid::make_valid(machines::reset(), 31);
     let d = machines::descriptor(a.machine, 31);
     let t = t.note(b"make valid: descriptor 31", a.refusal as u32, 0);
     t.note(b"make valid: descriptor 31 then", d, 8)

@@ -19,9 +19,9 @@ pub use host::Stepped;
 // What a run answers: refusal, machine, event, steps completed.
 pub use host::Ran;
 // What delivery answers: refusal, machine.
-pub use deliver::Delivered;
+pub use saves::Delivered;
 // What making valid answers: refusal, machine.
-pub use deliver::Made;
+pub use valid::Made;
 // What the reader answers: refusal, machine, frames of its memory.
 pub use form::Restored;
 
@@ -34,7 +34,7 @@ pub use host::run;
 // Delivers the trap of event 1, 3, 4 or 7. Refusals 1, 2, 8, 9.
 pub use deliver::deliver;
 // Sets the valid bit of a descriptor. Refusals 2, 6, 7.
-pub use deliver::make_valid;
+pub use valid::make_valid;
 // Writes the stored form into the first 101 bytes of a buffer. Refusals 1, 2, 3.
 pub use form::write_form;
 // Reads a stored form. Refusals 3, 4, 10, 2, 5; refused, it gives the reset record and one frame.

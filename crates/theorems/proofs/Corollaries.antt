@@ -20,10 +20,11 @@ use Rattle.bus.specs.Board.{real}
 use Rattle.cpu.specs.Machine.{machineState}
 use Rattle.host.specs.Host as host
 use Rattle.host.specs.Host.{machineIn, refusalOf, runOf, stepOf}
+use Rattle.valid.specs.Valid.{unmade, madeValid, makeValid}
+use Rattle.saves.specs.Saves.{Outcome, refusal, pushed, allPassed, wordAt, entered, vectored, saved}
 use Rattle.deliver.specs.declared.traps.Trap.{Trap}
 use Rattle.deliver.specs.declared.traps.Trap.the-variants.{Two, Three, Undelivered}
-use Rattle.deliver.specs.Deliver.{Outcome, refusal, trapOf, pushed, allPassed, wordAt, entered, vectored, saved, taken, deliverOf}
-use Rattle.deliver.specs.Valid.{unmade, madeValid, makeValid}
+use Rattle.deliver.specs.Deliver.{trapOf, taken, deliverOf}
 use Rattle.form.specs.Form.{widths, machineOf, framesOf, readFields, readForm, refused, restored}
 use Rattle.theorems.specs.Withhold.{withheld, Withheld, hosted, Alike}
 use Rattle.theorems.specs.Runs.{followed}

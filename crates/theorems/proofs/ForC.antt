@@ -32,9 +32,9 @@ use Rattle.events.proofs.Codec.{codec}
 use Rattle.host.specs.Host as host
 use Rattle.host.specs.Host.{refusalOf, stepOf, runOf}
 use Rattle.host.proofs.Laws.{run-one}
-use Rattle.deliver.specs.Deliver as d
+use Rattle.valid.specs.Valid.{makeValid}
+use Rattle.saves.specs.Saves as saves
 use Rattle.deliver.specs.Deliver.{stopped, trapOf, deliverOf}
-use Rattle.deliver.specs.Valid.{makeValid}
 use Rattle.lent.specs.Lent.{Formed, formed, resetForm, lentRefusal, completedBy, Moved, moved, deliveredBack, deliverRead, deliverForm, madeBack, makeRead, makeForm}
 use Rattle.z280.specs.Calls.{Answered, answered, went, stepRead, stepForm, runRead, runForm}
 use Rattle.theorems.specs.Refusals.{Test, refusalBy, deliverable, fatal, readTests}
@@ -193,7 +193,7 @@ module _ (s w e : List ℕ) where
   abbrev at : ℕ
   at = lentRefusal (readForm s) (length w) (length e)
 
-  abbrev outcome : d.Outcome
+  abbrev outcome : saves.Outcome
   outcome = deliverOf ((readForm s) .machine) w (eventIn e)
 
   abbrev choice : Bool → Moved

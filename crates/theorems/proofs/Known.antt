@@ -21,8 +21,8 @@ use Rattle.bus.specs.Board.{real}
 use Rattle.cpu.specs.Program.{program}
 use Rattle.cpu.specs.Machine.{machineState}
 use Rattle.host.specs.Host.{machineIn, refusalOf, StepOutcome, stepOf}
-use Rattle.deliver.specs.declared.Made.{Made}
-use Rattle.deliver.specs.Valid.{madeValid, makeValid}
+use Rattle.valid.specs.declared.Made.{Made}
+use Rattle.valid.specs.Valid.{madeValid, makeValid}
 use Rattle.theorems.specs.Withhold.{withheld}
 use Rattle.theorems.specs.Known.{Backed, Pushing, markedAt, first, second, third, Pushed, P11, KnownSteps}
 use Rattle.theorems.proofs.Allowed.{latched-allowed, allowed-parts, parts-allowed}

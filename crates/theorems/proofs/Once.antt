@@ -10,7 +10,7 @@ use Rattle.bus.specs.Leave.{eventOf}
 use Rattle.host.specs.declared.Stepped.{Stepped}
 use Rattle.host.specs.declared.Ran.{Ran}
 use Rattle.host.specs.Host.{machineIn, StepOutcome, stepped, Outcome, ran}
-use Rattle.deliver.specs.Deliver as d
+use Rattle.saves.specs.Saves as saves
 use Rattle.theorems.specs.Once.{Determined}
 
 eventIn : b.Event real → Event
@@ -53,7 +53,7 @@ determined =
           (sym (run-back r w′) ∙ ap run-in (p ∙ sym q) ∙ run-back s v′, ap (λ (o : Outcome). o .ran .state .mem) (p ∙ sym q));
       deliver =
           λ m w e r s w′ v′ p q.
-          (ap (λ (o : d.Outcome). o .answer) (p ∙ sym q), ap (λ (o : d.Outcome). o .memory) (p ∙ sym q));
+          (ap (λ (o : saves.Outcome). o .answer) (p ∙ sym q), ap (λ (o : saves.Outcome). o .memory) (p ∙ sym q));
       make-valid = λ m n r s p q. p ∙ sym q;
       write-form = λ m frames out r s out′ other p q. (p .0 ∙ sym (q .0), p .1 ∙ sym (q .1));
       read-form = λ s r t p q. p ∙ sym q;

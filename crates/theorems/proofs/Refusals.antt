@@ -22,11 +22,12 @@ use Rattle.bus.specs.Board.{real}
 use Rattle.cpu.specs.Machine.{machineState}
 use Rattle.host.specs.Host as host
 use Rattle.host.specs.Host.{refusalOf, runOf, stepOf}
+use Rattle.valid.specs.declared.Made.{Made}
+use Rattle.valid.specs.Valid.{unmade, madeValid, makeValid}
+use Rattle.saves.specs.Saves.{Outcome, refusal, pushed, allPassed, vectorAt, wordAt, entered, vectored, saved}
 use Rattle.deliver.specs.declared.traps.Trap.{Trap}
 use Rattle.deliver.specs.declared.traps.Trap.the-variants.{Two, Three, Undelivered}
-use Rattle.deliver.specs.declared.Made.{Made}
-use Rattle.deliver.specs.Deliver.{Outcome, refusal, stopped, trapOf, pushed, allPassed, vectorAt, wordAt, entered, vectored, saved, taken, deliverOf}
-use Rattle.deliver.specs.Valid.{unmade, madeValid, makeValid}
+use Rattle.deliver.specs.Deliver.{stopped, trapOf, taken, deliverOf}
 use Rattle.form.specs.declared.Restored.{Restored}
 use Rattle.form.specs.Form.{widths, machineOf, framesOf, writeRefusal, written, refused, restored, readFields, readForm}
 use Rattle.theorems.specs.Refusals.{Test, test, refusalBy, Given, no-cause, here, later, runTests, deliverable, missing, lost, fatal, deliverTests, validTests, writeTests, readTests, Demand1}

@@ -23,8 +23,8 @@ use Rattle.bus.specs.Board.{real}
 use Rattle.cpu.specs.Program.{program}
 use Rattle.cpu.specs.Machine.{machineState}
 use Rattle.host.specs.Host.{machineIn, refusalOf, Outcome, runOf, StepOutcome, stepOf}
-use Rattle.deliver.specs.declared.Made.{Made}
-use Rattle.deliver.specs.Valid.{madeValid, makeValid}
+use Rattle.valid.specs.declared.Made.{Made}
+use Rattle.valid.specs.Valid.{madeValid, makeValid}
 use Rattle.theorems.specs.Withhold.{withheld, Withheld, Hosted, overWith, further, onceMade, onFault, hosted, Alike, Doesn'tShow, Moment, begun, stepped, resumed, EachCount, End, full, cut, EndsAtMoment, Demand3}
 use Rattle.theorems.proofs.Works.{passed, run-refusal, step-refusal, run-works, step-works, run-marks, step-marks, run-allowed, step-allowed, made, made-machine, run-refused}
 

@@ -16,8 +16,8 @@ use Rattle.bus.specs.Board.{real}
 use Rattle.cpu.specs.Program.{program}
 use Rattle.cpu.specs.Machine.{machineState}
 use Rattle.host.specs.Host.{machineIn, refusalOf, Outcome, runOf, StepOutcome, stepOf}
-use Rattle.deliver.specs.declared.Made.{Made}
-use Rattle.deliver.specs.Valid.{unmade, madeValid, makeValid}
+use Rattle.valid.specs.declared.Made.{Made}
+use Rattle.valid.specs.Valid.{unmade, madeValid, makeValid}
 use Rattle.theorems.proofs.Allowed.{allowed-parts, parts-allowed}
 use Rattle.theorems.proofs.Lasting.{Lasting, Lasts, step-lasts, run-lasts}
 

@@ -8,8 +8,8 @@ use Rattle.regs.specs.declared.Machine.{Machine}
 use Rattle.legal.specs.Legal.{allowedBits}
 use Rattle.bus.specs.declared.kinds.Event.{Event}
 use Rattle.host.specs.Host.{machineIn, Outcome, runOf, stepOf}
+use Rattle.valid.specs.Valid.{makeValid}
 use Rattle.deliver.specs.Deliver.{deliverOf}
-use Rattle.deliver.specs.Valid.{makeValid}
 use Rattle.form.specs.Form.{readForm}
 use Rattle.theorems.specs.Withhold.{withheld, Withheld, Hosted, hosted}
 use Rattle.theorems.specs.Runs.{followed}

@@ -16,8 +16,8 @@ use Rattle.bus.specs.Leave.{eventOf}
 use Rattle.cpu.specs.Machine.{machineState}
 use Rattle.cpu.specs.Program.{program}
 use Rattle.host.specs.Host.{machineIn, stepOf, runOf}
+use Rattle.valid.specs.Valid.{makeValid}
 use Rattle.deliver.specs.Deliver.{trapOf, deliverOf}
-use Rattle.deliver.specs.Valid.{makeValid}
 use Rattle.form.specs.Form.{readForm, writeRefusal}
 use Rattle.events.specs.Events.{eventNumbers}
 use Rattle.events.specs.Bytes.{answerBytes, eventIn}

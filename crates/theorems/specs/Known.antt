@@ -13,7 +13,7 @@ use Rattle.board.specs.Program.{completed, violation}
 use Rattle.regs.specs.declared.Machine.{Machine}
 use Rattle.regs.specs.Select.{userOf}
 use Rattle.host.specs.Host.{machineIn, refusalOf, StepOutcome, stepOf}
-use Rattle.deliver.specs.Valid.{makeValid}
+use Rattle.valid.specs.Valid.{makeValid}
 use Rattle.theorems.specs.Withhold.{withheld}
 
 -- where page d has the byte of a logical address, not separated

@@ -9,10 +9,11 @@ use Rattle.bus.specs.declared.kinds.Event.{Event}
 use Rattle.host.specs.declared.Stepped.{Stepped}
 use Rattle.host.specs.declared.Ran.{Ran}
 use Rattle.host.specs.Host.{stepped, stepOf, ran, runOf}
-use Rattle.deliver.specs.declared.Delivered.{Delivered}
-use Rattle.deliver.specs.declared.Made.{Made}
-use Rattle.deliver.specs.Deliver.{outcome, deliverOf}
-use Rattle.deliver.specs.Valid.{makeValid}
+use Rattle.valid.specs.declared.Made.{Made}
+use Rattle.valid.specs.Valid.{makeValid}
+use Rattle.saves.specs.declared.Delivered.{Delivered}
+use Rattle.saves.specs.Saves.{outcome}
+use Rattle.deliver.specs.Deliver.{deliverOf}
 use Rattle.form.specs.declared.Restored.{Restored}
 use Rattle.form.specs.Form.{writeRefusal, written, readForm}
 

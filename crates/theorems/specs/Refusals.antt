@@ -19,10 +19,11 @@ use Rattle.bus.specs.declared.kinds.Event.{Event}
 use Rattle.bus.specs.declared.kinds.Event.the-variants.{Completed, Violation, Absent, Stopped}
 use Rattle.cpu.specs.Machine.{machineState}
 use Rattle.host.specs.Host.{runOf, stepOf}
+use Rattle.valid.specs.Valid.{makeValid}
+use Rattle.saves.specs.Saves.{pushed, allPassed, vectorAt, wordAt}
 use Rattle.deliver.specs.declared.traps.Trap.{Trap}
 use Rattle.deliver.specs.declared.traps.Trap.the-variants.{Two, Three, Undelivered}
-use Rattle.deliver.specs.Deliver.{trapOf, pushed, allPassed, vectorAt, wordAt, deliverOf}
-use Rattle.deliver.specs.Valid.{makeValid}
+use Rattle.deliver.specs.Deliver.{trapOf, deliverOf}
 use Rattle.form.specs.Form.{widths, machineOf, framesOf, writeRefusal, written, readForm}
 
 -- ── the order ──

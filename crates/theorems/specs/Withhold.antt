@@ -14,8 +14,8 @@ use Rattle.regs.specs.declared.Machine.{Machine}
 use Rattle.bus.specs.Board.{real}
 use Rattle.cpu.specs.Machine.{machineState}
 use Rattle.host.specs.Host.{machineIn, Outcome, runOf, stepOf}
-use Rattle.deliver.specs.declared.Made.{Made}
-use Rattle.deliver.specs.Valid.{makeValid}
+use Rattle.valid.specs.declared.Made.{Made}
+use Rattle.valid.specs.Valid.{makeValid}
 
 -- "clear the valid marks of any w user descriptors that had them"
 abbrev pub withheld : List ℕ → Machine → Machine

@@ -1,0 +1,3 @@
+pub mod Descriptor
+pub mod Known
+pub mod Unique
