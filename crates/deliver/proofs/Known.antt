@@ -17,7 +17,7 @@ use Rattle.bus.specs.declared.kinds.Event.the-variants.{Stopped}
 use Rattle.bus.specs.Access.{next, roomFor}
 use Rattle.saves.specs.declared.places.Pair.the-variants.{At}
 use Rattle.saves.specs.Saves.{Outcome, outcome, vectorAt, saved}
-use Rattle.saves.specs.Words.{pairWith, pairOf, pairFor, markedWord, storedWord, entering, storeOne, storeTwo, storeThree}
+use Rattle.saves.specs.Words.{pairOf, pairFor, markedWord, storedWord, entering, storeOne, storeTwo, storeThree}
 use Rattle.saves.proofs.Stack.{stored-length, ends-3}
 use Rattle.deliver.specs.Deliver.{stopped, trapOf, taken, deliverOf}
 use Rattle.deliver.specs.Known.{six, Called, SystemCall}
@@ -47,7 +47,7 @@ unfolding roomFor translate placed through ifRoom
 room-off mmu ds n a off h = rw (translating-is mmu false ∙ off, lt-ltb a n h)
 
 pair-off : (mmu : ℕ) (ds : List ℕ) (n a : ℕ) → bit 0x0800 mmu ≡ false → a < n → next a < n → pairFor mmu ds n a ≡ At a (next a)
-unfolding pairFor pairOf pairWith
+unfolding pairFor pairOf
 pair-off mmu ds n a off h k = rw (room-off mmu ds n a off h, room-off mmu ds n (next a) off k)
 
 module _ (m : Machine) (w : List ℕ) (to : ℕ) (long : 0x2000 ≤ length w) (room : vectorAt (m .ctl) 0x50 + 3 < length w)

@@ -26,12 +26,12 @@ use Rattle.saves.specs.declared.places.Places.{Places}
 use Rattle.saves.specs.declared.places.Places.the-variants.{Found, Lost}
 use Rattle.saves.specs.declared.stores.Word.{Word}
 use Rattle.saves.specs.Saves.{Outcome, outcome, refusing, refusal, pushes, lowered, system, pushed, vectorAt, both, wordAt, entered, allPassed, vectored, saved}
-use Rattle.saves.specs.Words.{pairWith, pairOf, pairFor, placesOf, placesFor, markedWord, storedWord, wordOf, wordIn, entering, storeOne, storeTwo, storeThree, savedAt}
+use Rattle.saves.specs.Words.{pairOf, pairFor, placesOf, placesFor, markedWord, storedWord, wordOf, wordIn, entering, storeOne, storeTwo, storeThree, savedAt}
 
 -- ── a word's two places ──
 
 pair-in : (g h : Got) (p q : ℕ) → At p q ≡ pairOf g h → (g ≡ Byte p) × (h ≡ Byte q)
-unfolding pairOf pairWith
+unfolding pairOf
 pair-in (Byte x) (Byte y) p q e = (cc, cc)
 pair-in (Byte x) (Denied i) p q e = let z : _≡_ {A = ℕ} 0 1 = cc in absurd (omega arith)
 pair-in (Byte x) (Lacks i) p q e = let z : _≡_ {A = ℕ} 0 1 = cc in absurd (omega arith)
@@ -91,7 +91,7 @@ module _ (m : Machine) (w : List ℕ) where
 
   after-lost : (i : ℕ) (g h : Got) (f : ℕ → ℕ → b.Answer real) → Nowhere ≡ pairOf g h →
       vectored m w i (b.after state g (λ x. b.after state h (λ y. f x y))) ≡ refusal 9 m w
-  unfolding b.after pairOf pairWith vectored allPassed
+  unfolding b.after pairOf vectored allPassed
   after-lost i (Byte x) (Byte y) f e = let z : _≡_ {A = ℕ} 0 1 = cc in absurd (omega arith)
   after-lost i (Byte x) (Denied j) f e = refl
   after-lost i (Byte x) (Lacks j) f e = refl

@@ -17,13 +17,10 @@ use Rattle.saves.specs.declared.places.Places.the-variants.{Found, Lost}
 use Rattle.saves.specs.declared.stores.Word.{Word}
 use Rattle.saves.specs.Saves.{Outcome, outcome, pushed, vectored}
 
-unfoldable pub pairWith : ℕ → Got → Pair
-pairWith p (Byte q) = At p q
-pairWith p (Denied i) = Nowhere
-pairWith p (Lacks x) = Nowhere
-
 unfoldable pub pairOf : Got → Got → Pair
-pairOf (Byte p) h = pairWith p h
+pairOf (Byte p) (Byte q) = At p q
+pairOf (Byte p) (Denied i) = Nowhere
+pairOf (Byte p) (Lacks x) = Nowhere
 pairOf (Denied i) h = Nowhere
 pairOf (Lacks x) h = Nowhere
 

@@ -1,6 +1,6 @@
 // Where the bytes of the words pushed go.
 ghost use mathlib.Core.Path.{_≡_};
-ghost use Rattle.saves.specs.Words.{pairFor, pairOf, pairWith, placesOf, placesFor};
+ghost use Rattle.saves.specs.Words.{pairFor, pairOf, placesOf, placesFor};
 use board::Got;
 use bus::read::next_of;
 use bus::store::room_for;
@@ -17,21 +17,15 @@ pub enum Places {
     Lost,
 }
 
-fn pair_with(p: u64, h: Got) -> Pair
-    ensures { λ r. ⌜ r ≡ pairWith p h ⌝ }
-{
-    match h {
-        Got::Byte(q) => Pair::At(p, q),
-        Got::Denied(_) => Pair::Nowhere,
-        Got::Lacks(_) => Pair::Nowhere,
-    }
-}
-
 fn pair_of(g: Got, h: Got) -> Pair
     ensures { λ r. ⌜ r ≡ pairOf g h ⌝ }
 {
     match g {
-        Got::Byte(p) => pair_with(p, h),
+        Got::Byte(p) => match h {
+            Got::Byte(q) => Pair::At(p, q),
+            Got::Denied(_) => Pair::Nowhere,
+            Got::Lacks(_) => Pair::Nowhere,
+        },
         Got::Denied(_) => Pair::Nowhere,
         Got::Lacks(_) => Pair::Nowhere,
     }
