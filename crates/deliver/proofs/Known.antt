@@ -17,7 +17,7 @@ use Rattle.bus.specs.declared.kinds.Event.the-variants.{Stopped}
 use Rattle.bus.specs.Access.{next, roomFor}
 use Rattle.saves.specs.declared.places.Pair.the-variants.{At}
 use Rattle.saves.specs.Saves.{Outcome, outcome, vectorAt, saved}
-use Rattle.saves.specs.Words.{pairOf, pairFor, markedWord, storedWord, entering, storeOne, storeTwo, storeThree}
+use Rattle.saves.specs.Words.{pairOf, pairFor, markedWord, storedWord, entering}
 use Rattle.saves.proofs.Stack.{stored-length, ends-3}
 use Rattle.deliver.specs.Deliver.{stopped, trapOf, taken, deliverOf}
 use Rattle.deliver.specs.Known.{six, Called, SystemCall}
@@ -68,7 +68,7 @@ module _ (m : Machine) (w : List ℕ) (to : ℕ) (long : 0x2000 ≤ length w) (r
   place a h = pair-off (m .mmu) (m .ds) (length w) a off (omega arith) (omega arith)
 
   saves : outcome (entering m marks stored 0x1FFA (vectorAt (m .ctl) 0x50)) stored ≡ saved m w 0x50 (to ∷ m .ctl .msr ∷ 0x1234 ∷ [])
-  unfolding once twice stored marks saved storeOne storeTwo storeThree
+  unfolding once twice stored marks saved
   saves =
       ends-3 m w (vectorAt (m .ctl) 0x50) to (m .ctl .msr) 0x1FFE 0x1FFC (rw sp) refl
       0x1FFE 0x1FFF (sym (place 0x1FFE (omega arith)))

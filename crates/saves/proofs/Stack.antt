@@ -24,9 +24,9 @@ use Rattle.saves.specs.declared.places.Pair.{Pair}
 use Rattle.saves.specs.declared.places.Pair.the-variants.{At, Nowhere}
 use Rattle.saves.specs.declared.places.Places.{Places}
 use Rattle.saves.specs.declared.places.Places.the-variants.{Found, Lost}
-use Rattle.saves.specs.declared.stores.Word.{Word}
+use Rattle.saves.specs.declared.pushing.Word.{Word}
 use Rattle.saves.specs.Saves.{Outcome, outcome, refusing, refusal, pushes, lowered, system, pushed, vectorAt, both, wordAt, entered, allPassed, vectored, saved}
-use Rattle.saves.specs.Words.{pairOf, pairFor, placesOf, placesFor, markedWord, storedWord, wordOf, wordIn, entering, storeOne, storeTwo, storeThree, savedAt}
+use Rattle.saves.specs.Words.{pairOf, pairFor, placesOf, placesFor, markedWord, storedWord, wordOf, wordIn, marking, storing, entering, savedAt}
 
 -- ── a word's two places ──
 
@@ -190,36 +190,33 @@ module _ (m : Machine) (w : List ℕ) (i v u : ℕ) (a a2 : ℕ) (z : a ≡ plus
   lost-1 xs e = lost m w i (v ∷ xs) (m .regs .ssp) v xs (m .ds) w a z e ∙ whole m w i (v ∷ xs)
 
   module _ (p q : ℕ) (e : At p q ≡ at a) where
-    marks-1 : List ℕ
+    abbrev marks-1 : List ℕ
     marks-1 = markedWord (m .mmu) a (m .ds)
 
-    bytes-1 : List ℕ
+    abbrev bytes-1 : List ℕ
     bytes-1 = storedWord p q v w
 
     on-1 : (xs : List ℕ) → left m w i (v ∷ xs) a xs marks-1 bytes-1 ≡ savedAt m w i (v ∷ xs)
-    unfolding marks-1 bytes-1
     on-1 xs = on m w i (v ∷ xs) (m .regs .ssp) v xs (m .ds) w a p q z e ∙ whole m w i (v ∷ xs)
 
     lost-2 : (xs : List ℕ) → Nowhere ≡ at a2 → refusal 9 m w ≡ savedAt m w i (v ∷ u ∷ xs)
     lost-2 xs e2 = lost m w i (v ∷ u ∷ xs) a u xs marks-1 bytes-1 a2 z2 e2 ∙ on-1 (u ∷ xs)
 
     module _ (p2 q2 : ℕ) (e2 : At p2 q2 ≡ at a2) where
-      marks-2 : List ℕ
+      abbrev marks-2 : List ℕ
       marks-2 = markedWord (m .mmu) a2 marks-1
 
-      bytes-2 : List ℕ
+      abbrev bytes-2 : List ℕ
       bytes-2 = storedWord p2 q2 u bytes-1
 
       on-2 : (xs : List ℕ) → left m w i (v ∷ u ∷ xs) a2 xs marks-2 bytes-2 ≡ savedAt m w i (v ∷ u ∷ xs)
-      unfolding marks-2 bytes-2
       on-2 xs = on m w i (v ∷ u ∷ xs) a u xs marks-1 bytes-1 a2 p2 q2 z2 e2 ∙ on-1 (u ∷ xs)
 
       long-2 : length bytes-2 ≡ length w
-      unfolding bytes-1 bytes-2
       long-2 = stored-length p2 q2 u (storedWord p q v w) ∙ stored-length p q v w
 
-      ends-2 : i + 3 < length w → storeTwo m (m .ds) w i (wordOf a p q v) (wordOf a2 p2 q2 u) ≡ savedAt m w i (v ∷ u ∷ [])
-      unfolding lowered marks-1 bytes-1 marks-2 bytes-2 storeOne storeTwo
+      ends-2 : i + 3 < length w → outcome (entering m marks-2 bytes-2 a2 i) bytes-2 ≡ savedAt m w i (v ∷ u ∷ [])
+      unfolding lowered
       ends-2 t = ends m w i (v ∷ u ∷ []) a2 marks-2 bytes-2 (rw (z2, z)) long-2 t ∙ on-2 []
 
       module _ (k a3 : ℕ) (z3 : a3 ≡ plus a2 65534) where
@@ -227,22 +224,20 @@ module _ (m : Machine) (w : List ℕ) (i v u : ℕ) (a a2 : ℕ) (z : a ≡ plus
         lost-3 xs e3 = lost m w i (v ∷ u ∷ k ∷ xs) a2 k xs marks-2 bytes-2 a3 z3 e3 ∙ on-2 (k ∷ xs)
 
         module _ (p3 q3 : ℕ) (e3 : At p3 q3 ≡ at a3) where
-          marks-3 : List ℕ
+          abbrev marks-3 : List ℕ
           marks-3 = markedWord (m .mmu) a3 marks-2
 
-          bytes-3 : List ℕ
+          abbrev bytes-3 : List ℕ
           bytes-3 = storedWord p3 q3 k bytes-2
 
           on-3 : left m w i (v ∷ u ∷ k ∷ []) a3 [] marks-3 bytes-3 ≡ savedAt m w i (v ∷ u ∷ k ∷ [])
-          unfolding marks-3 bytes-3
           on-3 = on m w i (v ∷ u ∷ k ∷ []) a2 k [] marks-2 bytes-2 a3 p3 q3 z3 e3 ∙ on-2 (k ∷ [])
 
           long-3 : length bytes-3 ≡ length w
-          unfolding bytes-3
           long-3 = stored-length p3 q3 k bytes-2 ∙ long-2
 
-          pub ends-3 : i + 3 < length w → storeThree m w i (wordOf a p q v) (wordOf a2 p2 q2 u) (wordOf a3 p3 q3 k) ≡ savedAt m w i (v ∷ u ∷ k ∷ [])
-          unfolding lowered marks-1 bytes-1 marks-2 bytes-2 marks-3 bytes-3 storeOne storeTwo storeThree
+          pub ends-3 : i + 3 < length w → outcome (entering m marks-3 bytes-3 a3 i) bytes-3 ≡ savedAt m w i (v ∷ u ∷ k ∷ [])
+          unfolding lowered
           ends-3 t = ends m w i (v ∷ u ∷ k ∷ []) a3 marks-3 bytes-3 (rw (z3, z2, z)) long-3 t ∙ on-3
 
   none-2 : (g g2 : Pair) → g ≡ at a → g2 ≡ at a2 → placesOf g g2 g2 ≡ Lost → refusal 9 m w ≡ savedAt m w i (v ∷ u ∷ [])
@@ -269,21 +264,22 @@ module _ (m : Machine) (w : List ℕ) (i v u : ℕ) (a a2 : ℕ) (z : a ≡ plus
   unfolding placesFor
   refused-3 k a3 z3 t r n h x = rw x (none-3 k a3 z3 (at a) (at a2) (at a3) refl refl refl (sym n ∙ h))
 
-  pub done-2 : (t : Places) (p q p2 q2 p3 q3 : ℕ) (x y : Word) (o : Outcome) → t ≡ placesFor (m .mmu) (m .ds) (length w) a a2 a2 →
-      t ≡ Found p q p2 q2 p3 q3 → x ≡ wordOf a p q v → y ≡ wordOf a2 p2 q2 u → i + 3 < length w → o ≡ storeTwo m (m .ds) w i x y →
-      o ≡ savedAt m w i (v ∷ u ∷ [])
+  pub done-2 : (t : Places) (p q p2 q2 p3 q3 : ℕ) (x y : Word) (es l : List ℕ) (r : Delivered) → t ≡ placesFor (m .mmu) (m .ds) (length w) a a2 a2 →
+      t ≡ Found p q p2 q2 p3 q3 → x ≡ wordOf a p q v → y ≡ wordOf a2 p2 q2 u → es ≡ marking (m .mmu) y (marking (m .mmu) x (m .ds)) →
+      l ≡ storing y (storing x w) → i + 3 < length w → r ≡ entering m es l a2 i → outcome r l ≡ savedAt m w i (v ∷ u ∷ [])
   unfolding placesFor
-  done-2 t p q p2 q2 p3 q3 x y o n h ex ey in-memory d =
+  done-2 t p q p2 q2 p3 q3 x y es l r n h ex ey ees el in-memory er =
       let s = each (at a) (at a2) (at a2) p q p2 q2 p3 q3 (sym n ∙ h) in
-      d ∙ rw (ex, ey) (ends-2 p q (sym (s .0)) p2 q2 (sym (s .1)) in-memory)
+      rw (er, ees, el, ex, ey) (ends-2 p q (sym (s .0)) p2 q2 (sym (s .1)) in-memory)
 
-  pub done-3 : (k a3 : ℕ) → a3 ≡ plus a2 65534 → (t : Places) (p q p2 q2 p3 q3 : ℕ) (x y f : Word) (o : Outcome) →
+  pub done-3 : (k a3 : ℕ) → a3 ≡ plus a2 65534 → (t : Places) (p q p2 q2 p3 q3 : ℕ) (x y f : Word) (es l : List ℕ) (r : Delivered) →
       t ≡ placesFor (m .mmu) (m .ds) (length w) a a2 a3 → t ≡ Found p q p2 q2 p3 q3 → x ≡ wordOf a p q v → y ≡ wordOf a2 p2 q2 u →
-      f ≡ wordOf a3 p3 q3 k → i + 3 < length w → o ≡ storeThree m w i x y f → o ≡ savedAt m w i (v ∷ u ∷ k ∷ [])
+      f ≡ wordOf a3 p3 q3 k → es ≡ marking (m .mmu) f (marking (m .mmu) y (marking (m .mmu) x (m .ds))) →
+      l ≡ storing f (storing y (storing x w)) → i + 3 < length w → r ≡ entering m es l a3 i → outcome r l ≡ savedAt m w i (v ∷ u ∷ k ∷ [])
   unfolding placesFor
-  done-3 k a3 z3 t p q p2 q2 p3 q3 x y f o n h ex ey ef in-memory d =
+  done-3 k a3 z3 t p q p2 q2 p3 q3 x y f es l r n h ex ey ef ees el in-memory er =
       let s = each (at a) (at a2) (at a3) p q p2 q2 p3 q3 (sym n ∙ h) in
-      d ∙ rw (ex, ey, ef) (ends-3 p q (sym (s .0)) p2 q2 (sym (s .1)) k a3 z3 p3 q3 (sym (s .2)) in-memory)
+      rw (er, ees, el, ex, ey, ef) (ends-3 p q (sym (s .0)) p2 q2 (sym (s .1)) k a3 z3 p3 q3 (sym (s .2)) in-memory)
 
 -- the places lie in memory
 module _ (mmu : ℕ) (ds : List ℕ) (n a a2 a3 p q p2 q2 p3 q3 : ℕ) (t : Places) (h : t ≡ placesFor mmu ds n a a2 a3)
@@ -295,18 +291,28 @@ module _ (mmu : ℕ) (ds : List ℕ) (n a a2 a3 p q p2 q2 p3 q3 : ℕ) (t : Plac
   unfolding placesFor
   three = each (pairFor mmu ds n a) (pairFor mmu ds n a2) (pairFor mmu ds n a3) p q p2 q2 p3 q3 (sym h ∙ f)
 
-  pub fit-2 : (v u : ℕ) (x y : Word) → x ≡ wordOf a p q v → y ≡ wordOf a2 p2 q2 u → (i : ℕ) → i + 3 < n →
-      (x .low < n) × ((x .high < n) × ((y .low < n) × ((y .high < n) × (i + 3 < n))))
-  fit-2 v u x y ex ey i in-memory =
+  pub fit-2 : (v u : ℕ) (x y : Word) → x ≡ wordOf a p q v → y ≡ wordOf a2 p2 q2 u →
+      (x .low < n) × ((x .high < n) × ((y .low < n) × (y .high < n)))
+  fit-2 v u x y ex ey =
       let k = word-fits a p q v x (three .0) ex in
-      let l = word-fits a2 p2 q2 u y (three .1) ey in (k .0, (k .1, (l .0, (l .1, in-memory))))
+      let l = word-fits a2 p2 q2 u y (three .1) ey in (k .0, (k .1, (l .0, l .1)))
 
-  pub fit-3 : (v u o : ℕ) (x y z : Word) → x ≡ wordOf a p q v → y ≡ wordOf a2 p2 q2 u → z ≡ wordOf a3 p3 q3 o → (i : ℕ) → i + 3 < n →
-      (x .low < n) × ((x .high < n) × ((y .low < n) × ((y .high < n) × ((z .low < n) × ((z .high < n) × (i + 3 < n))))))
-  fit-3 v u o x y z ex ey ez i in-memory =
+  pub fit-3 : (v u o : ℕ) (x y z : Word) → x ≡ wordOf a p q v → y ≡ wordOf a2 p2 q2 u → z ≡ wordOf a3 p3 q3 o →
+      (x .low < n) × ((x .high < n) × ((y .low < n) × ((y .high < n) × ((z .low < n) × (z .high < n)))))
+  fit-3 v u o x y z ex ey ez =
       let k = word-fits a p q v x (three .0) ex in
       let l = word-fits a2 p2 q2 u y (three .1) ey in
-      let j = word-fits a3 p3 q3 o z (three .2) ez in (k .0, (k .1, (l .0, (l .1, (j .0, (j .1, in-memory))))))
+      let j = word-fits a3 p3 q3 o z (three .2) ez in (k .0, (k .1, (l .0, (l .1, (j .0, j .1)))))
+
+-- the vector lies in memory after the pushes too
+pub within-2 : (i p q v p2 q2 u : ℕ) (w l : List ℕ) → l ≡ storedWord p2 q2 u (storedWord p q v w) → i + 3 < length w → i + 3 < length l
+within-2 i p q v p2 q2 u w l e h = rw (e, stored-length p2 q2 u (storedWord p q v w), stored-length p q v w) h
+
+pub within-3 : (i p q v p2 q2 u p3 q3 k : ℕ) (w l : List ℕ) → l ≡ storedWord p3 q3 k (storedWord p2 q2 u (storedWord p q v w)) →
+    i + 3 < length w → i + 3 < length l
+within-3 i p q v p2 q2 u p3 q3 k w l e h =
+    let x = storedWord p2 q2 u (storedWord p q v w) in
+    rw (e, stored-length p3 q3 k x) (within-2 i p q v p2 q2 u w x refl h)
 
 -- by an offset
 pub by-vector : (m : Machine) (w : List ℕ) (offset : ℕ) (vs : List ℕ) (i : ℕ) (o : Outcome) → i ≡ vectorAt (m .ctl) offset → o ≡ savedAt m w i vs →

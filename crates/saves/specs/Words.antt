@@ -14,8 +14,8 @@ use Rattle.saves.specs.declared.places.Pair.{Pair}
 use Rattle.saves.specs.declared.places.Pair.the-variants.{At, Nowhere}
 use Rattle.saves.specs.declared.places.Places.{Places}
 use Rattle.saves.specs.declared.places.Places.the-variants.{Found, Lost}
-use Rattle.saves.specs.declared.stores.Word.{Word}
-use Rattle.saves.specs.Saves.{Outcome, outcome, pushed, vectored}
+use Rattle.saves.specs.declared.pushing.Word.{Word}
+use Rattle.saves.specs.Saves.{Outcome, pushed, vectored}
 
 unfoldable pub pairOf : Got → Got → Pair
 pairOf (Byte p) (Byte q) = At p q
@@ -47,6 +47,13 @@ storedWord p q v w = set (set w p (v % 256)) q (v / 256)
 abbrev pub wordOf : (at low high value : ℕ) → Word
 wordOf at low high value = record { at = at; low = low; high = high; value = value }
 
+-- what pushing a word leaves of descriptors and of memory
+abbrev pub marking : (mmu : ℕ) → Word → List ℕ → List ℕ
+marking mmu x ds = markedWord mmu (x .at) ds
+
+abbrev pub storing : Word → List ℕ → List ℕ
+storing x w = storedWord (x .low) (x .high) (x .value) w
+
 abbrev pub wordIn : List ℕ → ℕ → ℕ
 wordIn w i = getD w i 0 + getD w (i + 1) 0 * 256
 
@@ -62,20 +69,6 @@ entering m ds w sp i =
             ds = ds;
           };
     }
-
--- words stored one after another, then the new status
-unfoldable pub storeOne : Machine → (ds w : List ℕ) (i : ℕ) (x : Word) → Outcome
-storeOne m ds w i x =
-    let l = storedWord (x .low) (x .high) (x .value) w in
-    outcome (entering m (markedWord (m .mmu) (x .at) ds) l (x .at) i) l
-
-unfoldable pub storeTwo : Machine → (ds w : List ℕ) (i : ℕ) (x y : Word) → Outcome
-storeTwo m ds w i x y =
-    storeOne m (markedWord (m .mmu) (x .at) ds) (storedWord (x .low) (x .high) (x .value) w) i y
-
-unfoldable pub storeThree : Machine → (w : List ℕ) (i : ℕ) (x y z : Word) → Outcome
-storeThree m w i x y z =
-    storeTwo m (markedWord (m .mmu) (x .at) (m .ds)) (storedWord (x .low) (x .high) (x .value) w) i y z
 
 -- a delivery by the vector at i
 abbrev pub savedAt : Machine → List ℕ → (i : ℕ) → List ℕ → Outcome

@@ -1,20 +1,22 @@
 // Saving status on the system stack and entering the service routine. All places are found before a byte changes.
+mod entering;
 mod places;
-mod stores;
+mod pushing;
 
 ghost use mathlib.Core.Path.{_≡_};
 ghost use mathlib.Core.List.{[], _∷_};
 ghost use Prim.Native.Nat.{_<_, _+_};
 ghost use lib.ListN.{length};
-ghost use Rattle.saves.specs.Saves.{outcome, refusing, saved, vectorAt};
+ghost use Rattle.saves.specs.Saves.{outcome, refusing, saved};
 ghost use Rattle.saves.specs.Words.{savedAt};
+use crate::entering::enter;
+use crate::entering::vector_at;
 use crate::places::Places;
 use crate::places::places_for;
-use crate::stores::store_three;
-use crate::stores::store_two;
-use crate::stores::word_at;
+use crate::pushing::push_three;
+use crate::pushing::push_two;
+use crate::pushing::word_at;
 use plan::kinds::plus16;
-use regs::Control;
 use regs::Machine;
 
 // 0 or the refusal's number, and the machine.
@@ -32,19 +34,12 @@ pub fn refused(refusal: u8, m: Machine) -> Delivered
     }
 }
 
-fn vector_at(c: Control, offset: u16) -> usize
-    ensures { λ r. ⌜ r ≡ vectorAt c offset ⌝ }
-    ensures { λ r. ⌜ r < 0x1010000 ⌝ }
-{
-    (c.vector / 16) as usize * 4096 + offset as usize
-}
-
 // The address and MSR, by the vector at i.
 fn two_words(m: Machine, w: &mut [u8], i: usize, address: u16) -> Delivered
     requires { ⌜ i + 3 < length (now w) ⌝ }
     ensures { λ r. ⌜ outcome r (now (w .exit)) ≡ savedAt m (now (w .entry)) i (address ∷ m .ctl .msr ∷ []) ⌝ }
 {
-    let ds = m.ds;
+    let mut ds = m.ds;
     let a = plus16(m.regs.ssp, 65534);
     let b = plus16(a, 65534);
     let t = places_for(m.mmu, &ds, w.len(), a, b, b);
@@ -53,7 +48,8 @@ fn two_words(m: Machine, w: &mut [u8], i: usize, address: u16) -> Delivered
     };
     let x = word_at(a, p, q, address);
     let y = word_at(b, p2, q2, m.ctl.msr);
-    store_two(m, ds, w, i, x, y)
+    push_two(m.mmu, &mut ds, w, x, y);
+    enter(m, ds, w, b, i)
 }
 
 // .. and a third word.
@@ -61,7 +57,7 @@ fn three_words(m: Machine, w: &mut [u8], i: usize, address: u16, operand: u16) -
     requires { ⌜ i + 3 < length (now w) ⌝ }
     ensures { λ r. ⌜ outcome r (now (w .exit)) ≡ savedAt m (now (w .entry)) i (address ∷ m .ctl .msr ∷ operand ∷ []) ⌝ }
 {
-    let ds = m.ds;
+    let mut ds = m.ds;
     let a = plus16(m.regs.ssp, 65534);
     let b = plus16(a, 65534);
     let d = plus16(b, 65534);
@@ -72,7 +68,8 @@ fn three_words(m: Machine, w: &mut [u8], i: usize, address: u16, operand: u16) -
     let x = word_at(a, p, q, address);
     let y = word_at(b, p2, q2, m.ctl.msr);
     let z = word_at(d, p3, q3, operand);
-    store_three(m, w, i, x, y, z)
+    push_three(m.mmu, &mut ds, w, x, y, z);
+    enter(m, ds, w, d, i)
 }
 
 pub fn save_two(m: Machine, w: &mut [u8], offset: u16, address: u16) -> Delivered

@@ -1,4 +1,4 @@
-use Rattle.saves.proofs.Stack.{refused-3, done-3, fit-3}
+use Rattle.saves.proofs.Stack.{refused-3, done-3, fit-3, within-3}
 use borrow.Author.Needs.{needs}
 use Rattle.saves.proofs.three_words.Statement.{statement}
 use Rattle.saves.proofs.three_words.Tie as tie
@@ -6,11 +6,14 @@ use Rattle.saves.proofs.three_words.Tie as tie
 returns : tie.Need-returns
 returns c = refused-3 _ _ _ _ _ _ _ (c .before .before .before .before .before .before .before .plus16 .ensures) (c .before .before .before .before .before .before .plus162 .ensures) _ _ (c .before .before .before .before .before .plus163 .ensures) _ _ (c .before .before .before .places-for .ensures) (c .before .enum-told .given .1) (c .refused .ensures)
 
-store-three-requires : tie.Need-store-three-requires
-store-three-requires c κs = fit-3 _ _ _ _ _ _ _ _ _ _ _ _ _ (c .before .before .before .before .before .before .before .places-for .ensures) (c .before .before .before .before .before .t .given .1) _ _ _ _ _ _ (c .before .before .before .word-at .ensures) (c .before .before .word-at2 .ensures) (c .before .word-at3 .ensures) _ (c .before .before .before .before .before .before .before .before .before .before .before .before .before .before .pre)
+push-three-requires : tie.Need-push-three-requires
+push-three-requires c κs = fit-3 _ _ _ _ _ _ _ _ _ _ _ _ _ (c .before .before .before .before .before .before .before .before .places-for .ensures) (c .before .before .before .before .before .before .t .given .1) _ _ _ _ _ _ (c .before .before .before .before .word-at .ensures) (c .before .before .before .word-at2 .ensures) (c .before .before .word-at3 .ensures)
+
+enter-requires : tie.Need-enter-requires
+enter-requires c κs = within-3 _ _ _ _ _ _ _ _ _ _ _ _ (c .before .before .before .push-three .ensures .1) (c .before .before .before .before .before .before .before .before .before .before .before .before .before .before .before .before .before .before .before .pre)
 
 returns-2 : tie.Need-returns-2
-returns-2 c = done-3 _ _ _ _ _ _ _ (c .before .before .before .before .before .before .before .before .before .before .before .before .before .before .plus16 .ensures) (c .before .before .before .before .before .before .before .before .before .before .before .before .before .plus162 .ensures) _ _ (c .before .before .before .before .before .before .before .before .before .before .before .before .plus163 .ensures) _ _ _ _ _ _ _ _ _ _ _ (c .before .before .before .before .before .before .before .before .before .before .places-for .ensures) (c .before .before .before .before .before .before .before .before .t .given .1) (c .before .before .before .before .before .before .word-at .ensures) (c .before .before .before .before .before .word-at2 .ensures) (c .before .before .before .before .word-at3 .ensures) (c .before .before .before .before .before .before .before .before .before .before .before .before .before .before .before .before .before .pre) (c .before .before .store-three .ensures)
+returns-2 c = done-3 _ _ _ _ _ _ _ (c .before .before .before .before .before .before .before .before .before .before .before .before .before .before .before .before .before .plus16 .ensures) (c .before .before .before .before .before .before .before .before .before .before .before .before .before .before .before .before .plus162 .ensures) _ _ (c .before .before .before .before .before .before .before .before .before .before .before .before .before .before .before .plus163 .ensures) _ _ _ _ _ _ _ _ _ _ _ _ _ (c .before .before .before .before .before .before .before .before .before .before .before .before .before .places-for .ensures) (c .before .before .before .before .before .before .before .before .before .before .before .t .given .1) (c .before .before .before .before .before .before .before .before .before .word-at .ensures) (c .before .before .before .before .before .before .before .before .word-at2 .ensures) (c .before .before .before .before .before .before .before .word-at3 .ensures) (c .before .before .before .before .push-three .ensures .0) (c .before .before .before .before .push-three .ensures .1) (c .before .before .before .before .before .before .before .before .before .before .before .before .before .before .before .before .before .before .before .before .pre) (c .enter .ensures)
 
 pub three-words-spec : {M : Type 1} → statement M
-three-words-spec = tie.close (tie.spec (λ c κs. search needs) (λ c κs. search needs) (λ c κs. search needs) (λ c κs. search needs) (λ c. search needs) (λ c. search needs) (λ c κs. search needs) returns (λ c κs. search needs) (λ c κs. search needs) (λ c κs. search needs) store-three-requires (λ c. search needs) returns-2)
+three-words-spec = tie.close (tie.spec (λ c κs. search needs) (λ c κs. search needs) (λ c κs. search needs) (λ c κs. search needs) (λ c. search needs) (λ c. search needs) (λ c κs. search needs) returns (λ c κs. search needs) (λ c κs. search needs) (λ c κs. search needs) push-three-requires enter-requires (λ c. search needs) returns-2)

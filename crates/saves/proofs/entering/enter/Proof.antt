@@ -1,7 +1,7 @@
 use Rattle.saves.specs.Words.{entering}
 use borrow.Author.Needs.{needs}
-use Rattle.saves.proofs.stores.enter.Statement.{statement}
-use Rattle.saves.proofs.stores.enter.Tie as tie
+use Rattle.saves.proofs.entering.enter.Statement.{statement}
+use Rattle.saves.proofs.entering.enter.Tie as tie
 
 returns : tie.Need-returns
 unfolding entering

@@ -1,8 +1,8 @@
 use mathlib.Core.Path.{refl}
 use Rattle.saves.specs.Words.{markedWord, storedWord}
 use borrow.Author.Needs.{needs}
-use Rattle.saves.proofs.stores.push.Statement.{statement}
-use Rattle.saves.proofs.stores.push.Tie as tie
+use Rattle.saves.proofs.pushing.push.Statement.{statement}
+use Rattle.saves.proofs.pushing.push.Tie as tie
 
 returns : tie.Need-returns
 unfolding markedWord storedWord
