@@ -1,12 +1,10 @@
 // Events by document 01's numbers and values, and the 12 bytes in which a call for C hands one over: number, completed steps, first
 // value, second value, of 2, 2, 4 and 4 bytes, low byte first.
-mod delivered;
-
 ghost use mathlib.Core.Path.{_≡_};
 ghost use lib.ListN.{length};
 ghost use Rattle.bus.specs.Leave.{eventOf};
 ghost use Rattle.events.specs.Events.{numbers, directionOf, stopNumbers, eventNumbers};
-ghost use Rattle.events.specs.Bytes.{answerBytes, eventIn};
+ghost use Rattle.events.specs.Bytes.{answerBytes};
 use bus::kinds::Event;
 use plan::kinds::Stop;
 
@@ -90,15 +88,4 @@ pub fn put_answer(out: &mut [u8], e: Event, steps: u16)
     let n = event_numbers(e);
     let b = laid_out(n, steps);
     pack::put_bytes(out, 0, &b);
-}
-
-// The event that the 12 bytes hand to delivery.
-pub fn event_in(s: &[u8]) -> Event
-    requires { ⌜ length (now s) ≡ 12 ⌝ }
-    ensures { λ r. ⌜ r ≡ eventIn (now (s .entry)) ⌝ }
-{
-    let number = delivered::word(s[0], s[1]);
-    let first = delivered::long(s[4], s[5], s[6], s[7]);
-    let second = delivered::long(s[8], s[9], s[10], s[11]);
-    delivered::event_of(number, first, second)
 }

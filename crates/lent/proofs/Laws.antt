@@ -12,7 +12,7 @@ use Rattle.legal.specs.Legal.{allowedBits, resetRecord}
 use Rattle.pack.specs.Pack.{pack}
 use Rattle.form.specs.declared.Restored.{Restored}
 use Rattle.form.specs.Form.{widths, fieldsOf, writeRefusal, written, readForm}
-use Rattle.events.specs.Bytes.{eventIn}
+use Rattle.handed.specs.Handed.{eventIn}
 use Rattle.bus.specs.declared.kinds.Event.{Event}
 use Rattle.valid.specs.declared.Made.{Made}
 use Rattle.valid.specs.Valid.{makeValid}

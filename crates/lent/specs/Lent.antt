@@ -12,7 +12,8 @@ use Rattle.legal.specs.Legal.{resetRecord}
 use Rattle.form.specs.declared.Restored.{Restored}
 use Rattle.form.specs.Form.{formLength, mostFrames, widths, fieldsOf, written, readForm}
 use Rattle.events.specs.Events.{eventNumbers}
-use Rattle.events.specs.Bytes.{answerLength, eventIn}
+use Rattle.events.specs.Bytes.{answerLength}
+use Rattle.handed.specs.Handed.{eventIn}
 use Rattle.valid.specs.declared.Made.{Made}
 use Rattle.valid.specs.Valid.{makeValid}
 use Rattle.saves.specs.Saves.{Outcome}

@@ -58,7 +58,7 @@ pub fn deliver(form: &mut [u8], memory: &mut [u8], event: &[u8]) -> u8
         return k;
     }
     let m = a.machine;
-    let e = events::event_in(event);
+    let e = handed::event_in(event);
     let r = deliver::deliver(m, memory, e);
     let undelivered = r.refusal != 0;
     if undelivered {

@@ -26,9 +26,9 @@ use Rattle.legal.specs.Legal.{wholeFrames, allowedBits, resetRecord}
 use Rattle.form.specs.Form.{widths, machineOf, framesOf, fieldsOf, writeRefusal, readForm}
 use Rattle.form.proofs.Accepted.{accepted, whole}
 use Rattle.events.specs.Events.{stopNumbers, eventNumbers}
-use Rattle.events.specs.Bytes.{eventIn}
-use Rattle.events.specs.Codec.{stopHanded, handed}
-use Rattle.events.proofs.Codec.{codec}
+use Rattle.handed.specs.Handed.{eventIn}
+use Rattle.handed.specs.Codec.{stopHanded, handed}
+use Rattle.handed.proofs.Codec.{codec}
 use Rattle.host.specs.Host as host
 use Rattle.host.specs.Host.{refusalOf, stepOf, runOf}
 use Rattle.host.proofs.Laws.{run-one}

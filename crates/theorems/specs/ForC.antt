@@ -20,8 +20,9 @@ use Rattle.valid.specs.Valid.{makeValid}
 use Rattle.deliver.specs.Deliver.{trapOf, deliverOf}
 use Rattle.form.specs.Form.{readForm, writeRefusal}
 use Rattle.events.specs.Events.{eventNumbers}
-use Rattle.events.specs.Bytes.{answerBytes, eventIn}
-use Rattle.events.specs.Codec.{InRange}
+use Rattle.events.specs.Bytes.{answerBytes}
+use Rattle.handed.specs.Handed.{eventIn}
+use Rattle.handed.specs.Codec.{InRange}
 use Rattle.lent.specs.Lent.{formed, resetForm, moved, deliverForm, makeForm}
 use Rattle.z280.specs.Calls.{answered, stepForm, runForm}
 use Rattle.theorems.specs.Refusals.{Test, test, refusalBy, deliverable, fatal, readTests}

@@ -1,8 +1,8 @@
 use borrow.Author.Tests.{le-leb, lt-leb, lt-ltb, le-ltb}
-use Rattle.events.specs.Bytes.{breakIn}
+use Rattle.handed.specs.Handed.{breakIn}
 use borrow.Author.Needs.{needs}
-use Rattle.events.proofs.delivered.break_in.Statement.{statement}
-use Rattle.events.proofs.delivered.break_in.Tie as tie
+use Rattle.handed.proofs.delivered.break_in.Statement.{statement}
+use Rattle.handed.proofs.delivered.break_in.Tie as tie
 
 returns : tie.Need-returns
 unfolding breakIn

@@ -1,8 +1,8 @@
-use Rattle.events.specs.Bytes.{delivered}
+use Rattle.handed.specs.Handed.{delivered}
 use borrow.Author.Tests.{ne-eqb}
 use borrow.Author.Needs.{needs}
-use Rattle.events.proofs.delivered.event_of.Statement.{statement}
-use Rattle.events.proofs.delivered.event_of.Tie as tie
+use Rattle.handed.proofs.delivered.event_of.Statement.{statement}
+use Rattle.handed.proofs.delivered.event_of.Tie as tie
 
 returns : tie.Need-returns
 unfolding delivered

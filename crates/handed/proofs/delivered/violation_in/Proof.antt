@@ -1,8 +1,8 @@
 use borrow.Author.Tests.{le-leb, lt-leb}
-use Rattle.events.specs.Bytes.{violationIn}
+use Rattle.handed.specs.Handed.{violationIn}
 use borrow.Author.Needs.{needs}
-use Rattle.events.proofs.delivered.violation_in.Statement.{statement}
-use Rattle.events.proofs.delivered.violation_in.Tie as tie
+use Rattle.handed.proofs.delivered.violation_in.Statement.{statement}
+use Rattle.handed.proofs.delivered.violation_in.Tie as tie
 
 returns : tie.Need-returns
 unfolding violationIn

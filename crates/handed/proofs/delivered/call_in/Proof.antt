@@ -1,8 +1,8 @@
 use borrow.Author.Tests.{le-leb, lt-leb}
-use Rattle.events.specs.Bytes.{callIn}
+use Rattle.handed.specs.Handed.{callIn}
 use borrow.Author.Needs.{needs}
-use Rattle.events.proofs.delivered.call_in.Statement.{statement}
-use Rattle.events.proofs.delivered.call_in.Tie as tie
+use Rattle.handed.proofs.delivered.call_in.Statement.{statement}
+use Rattle.handed.proofs.delivered.call_in.Tie as tie
 
 returns : tie.Need-returns
 unfolding callIn

@@ -9,9 +9,10 @@ use Rattle.plan.specs.declared.kinds.Stop.the-variants.{Privileged, Call, Exten
 use Rattle.bus.specs.declared.kinds.Event.{Event}
 use Rattle.bus.specs.declared.kinds.Event.the-variants.{Completed, Violation, Absent, Stopped}
 use Rattle.bus.specs.Leave.{eventOf}
 use Rattle.events.specs.declared.Numbered.{Numbered}
 use Rattle.events.specs.Events.{numbers, eventNumbers}
-use Rattle.events.specs.Bytes.{answerBytes, spelt, eventIn}
+use Rattle.events.specs.Bytes.{answerBytes}
+use Rattle.handed.specs.Handed.{spelt, eventIn}
 
 -- Each value has room in its bytes. The definition's numbers are unbounded, so it is said here.
 unfoldable pub StopFits : Stop → Type 0

@@ -1,7 +1,7 @@
 // The event that numbers name to delivery: 1, 3, 4 or 7 with values in their range. All others read as event 0, which delivery refuses.
 ghost use mathlib.Core.Path.{_≡_};
 ghost use Prim.Native.Nat.{_+_, _*_};
-ghost use Rattle.events.specs.Bytes.{violationIn, privilegedIn, callIn, breakIn, delivered};
+ghost use Rattle.handed.specs.Handed.{violationIn, privilegedIn, callIn, breakIn, delivered};
 use bus::kinds::Event;
 use plan::kinds::Stop;
 

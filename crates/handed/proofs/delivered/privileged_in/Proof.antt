@@ -1,8 +1,8 @@
 use borrow.Author.Tests.{le-leb, lt-leb, lt-ltb, le-ltb}
-use Rattle.events.specs.Bytes.{privilegedIn}
+use Rattle.handed.specs.Handed.{privilegedIn}
 use borrow.Author.Needs.{needs}
-use Rattle.events.proofs.delivered.privileged_in.Statement.{statement}
-use Rattle.events.proofs.delivered.privileged_in.Tie as tie
+use Rattle.handed.proofs.delivered.privileged_in.Statement.{statement}
+use Rattle.handed.proofs.delivered.privileged_in.Tie as tie
 
 returns : tie.Need-returns
 unfolding privilegedIn

@@ -10,10 +10,11 @@ use Rattle.plan.specs.declared.kinds.Stop.the-variants.{Privileged, Call, Exten
 use Rattle.bus.specs.declared.kinds.Event.{Event}
 use Rattle.bus.specs.declared.kinds.Event.the-variants.{Completed, Violation, Absent, Stopped}
 use Rattle.bus.specs.Leave.{eventOf}
 use Rattle.events.specs.declared.Numbered.{Numbered}
 use Rattle.events.specs.Events.{directionOf, stopNumbers, eventNumbers}
-use Rattle.events.specs.Bytes.{little, answerBytes, spelt, violationIn, privilegedIn, callIn, breakIn, delivered, eventIn}
-use Rattle.events.specs.Codec.{StopFits, Fits, StopInRange, InRange, numbersIn, named, stopHanded, handed, Codec}
+use Rattle.events.specs.Bytes.{little, answerBytes}
+use Rattle.handed.specs.Handed.{spelt, violationIn, privilegedIn, callIn, breakIn, delivered, eventIn}
+use Rattle.handed.specs.Codec.{StopFits, Fits, StopInRange, InRange, numbersIn, named, stopHanded, handed, Codec}
 
 -- ---- bytes of a number
 
