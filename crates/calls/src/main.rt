@@ -1,31 +1,91 @@
-// Runs step and run on cases that give each refusal they can give, in its order, and the known steps that are to be run.
-mod known;
-mod stepping;
+// Runs step and run on cases that give each refusal they can give, in its order, and the known steps of document 01 that are to be run:
+// standard input has them, as `cases::script` reads them. STEP, RUN, DELIVER and VALID are the calls, over BYTES bytes of memory.
+use cases::cells;
+use cases::item;
+use cases::item::Item;
+use cases::machines;
+use cases::script;
+use regs::Machine;
 
-use bus::kinds::Event;
-use cases::tally::Tally;
-
-fn number(e: Event) -> u32 {
-    let n = events::event_numbers(e);
-    n.number as u32
+fn answer(x: &mut [u16; 100], refusal: u8, m: Machine) {
+    x[cells::REFUSAL] = refusal as u16;
+    machines::put_machine(x, m);
 }
 
-fn steps(t: Tally) -> Tally {
-    let t = stepping::step_memory(t);
-    let t = stepping::step_bits(t);
-    let t = stepping::run_refused(t);
-    let t = stepping::refused_answers(t);
-    stepping::budgets(t)
+fn step(m: Machine, x: &mut [u16; 100], w: &mut [u8]) {
+    let a = host::step(m, w);
+    let next = a.machine;
+    let e = a.event;
+    answer(x, a.refusal, next);
+    machines::put_event(x, e);
 }
 
-fn known_steps(t: Tally) -> Tally {
-    let t = known::system_call(t);
-    let t = known::frames(t);
-    known::push_withheld(t)
+fn run(m: Machine, x: &mut [u16; 100], w: &mut [u8]) {
+    let a = host::run(m, w, x[cells::STEPS]);
+    let next = a.machine;
+    let e = a.event;
+    answer(x, a.refusal, next);
+    machines::put_event(x, e);
+    x[cells::STEPS] = a.steps;
+}
+
+fn deliver(m: Machine, x: &mut [u16; 100], w: &mut [u8]) {
+    let e = machines::event(x[cells::EVENT], x[cells::FIRST], x[cells::SECOND]);
+    let a = deliver::deliver(m, w, e);
+    let next = a.machine;
+    answer(x, a.refusal, next);
+}
+
+fn make_valid(m: Machine, x: &mut [u16; 100]) {
+    let a = valid::make_valid(m, (x[cells::N] % 256) as u8);
+    let next = a.machine;
+    answer(x, a.refusal, next);
+}
+
+// STEP, RUN, DELIVER, VALID.
+fn call(name: u64, x: &mut [u16; 100], w: &mut [u8]) {
+    let m = machines::machine(*x);
+    match name {
+        0x53544550 => step(m, x, w),
+        0x52554E => run(m, x, w),
+        0x44454C49564552 => deliver(m, x, w),
+        0x56414C4944 => make_valid(m, x),
+        _ => {}
+    }
+}
+
+fn call_with(name: u64, x: &mut [u16; 100], w: &mut [u8]) {
+    let n = cells::value(x, cells::BYTES_PLACE) as usize;
+    if n <= w.len() {
+        call(name, x, &mut w[0..n]);
+    }
+}
+
+fn take(i: Item, x: &mut [u16; 100], w: &mut [u8; 69632], b: u8) -> Item {
+    if script::is_call(i, b) {
+        call_with(i.name, x, w);
+    }
+    let next = script::take(i, x, w, b);
+    if b == b'\n' {
+        *w = [0; 69632];
+    }
+    next
+}
+
+fn run_cases(s: &[u8]) {
+    let mut x = [0u16; 100];
+    let mut w = [0u8; 69632];
+    let mut item = item::empty();
+    let mut i = 0;
+    while i < s.len() {
+        item = take(item, &mut x, &mut w, s[i]);
+        i += 1;
+    }
+    script::write_total(&x);
 }
 
 fn main() {
-    let t = steps(Tally::new());
-    let t = known_steps(t);
-    t.end();
+    let mut text = io::large_buffer();
+    let n = io::read_full(0, &mut text);
+    run_cases(&text[..n]);
 }

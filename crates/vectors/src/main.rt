@@ -1,102 +1,111 @@
 // Runs the worked example boxes of the manual through the machine. Standard input has a box to a line and says at its head how one is
-// written. A line is written for each box, with what differs in it, and then a total.
-mod item;
-mod places;
-mod report;
+// written. Each is run in two trials at once, its open flags clear in one and set in the other. A line is written for each box, with what
+// differs in it, and then a total.
+mod after;
+mod before;
 mod trial;
 
-// The current line's start, and the boxes so far.
-struct Tally {
-    from: usize,
-    boxes: u64,
-    wrong: u64,
+use cases::cells;
+use cases::item;
+use cases::item::Item;
+use cases::machines;
+use cases::report;
+
+fn run(x: &mut [u16; 100], w: &mut [u8; 65536]) {
+    let m = machines::machine(*x);
+    let a = host::run(m, w, x[cells::STEPS]);
+    let next = a.machine;
+    let e = a.event;
+    machines::put_machine(x, next);
+    machines::put_event(x, e);
+    x[cells::REFUSAL] = a.refusal as u16;
 }
 
-fn byte_at(s: &[u8], i: usize) -> u8 {
-    if i < s.len() { s[i] } else { 0 }
-}
-
-// How much of the box differs, with its open flags at `open`.
-fn run_box(s: &[u8], from: usize, to: usize, open: u8) -> u64 {
-    let mut w = [0u8; 65536];
-    let mut t = trial::start(open);
-    let mut i = from;
-    while i < to {
-        t = trial::take(t, &mut w, byte_at(s, i));
-        i += 1;
+// The next field; the run stands between the bytes and what is after.
+fn turn(x: &mut [u16; 100], w: &mut [u8; 65536]) {
+    let field = x[trial::FIELD];
+    if field < trial::NOTE {
+        x[trial::FIELD] = field + 1;
     }
-    trial::close(t, &mut w)
-}
-
-fn is_box(b: u8) -> bool {
-    (b != b'#') & (b != b'\n')
-}
-
-fn run_line(t: Tally, s: &[u8], to: usize) -> Tally {
-    let from = t.from;
-    let next = std::num::wrapping_add_usize(to, 1);
-    if !is_box(byte_at(s, from)) {
-        return Tally {
-            from: next,
-            boxes: t.boxes,
-            wrong: t.wrong,
-        };
-    }
-    let clear = run_box(s, from, to, 0x00);
-    let set = run_box(s, from, to, 0xFF);
-    let boxes = std::num::wrapping_add_u64(t.boxes, 1);
-    if (clear == 0) & (set == 0) {
-        io::write_all(1, b" ok\n");
-        return Tally {
-            from: next,
-            boxes,
-            wrong: t.wrong,
-        };
-    }
-    io::write_all(1, b"\n");
-    Tally {
-        from: next,
-        boxes,
-        wrong: std::num::wrapping_add_u64(t.wrong, 1),
+    if field == trial::BYTES {
+        run(x, w);
     }
 }
 
-fn take_byte(t: Tally, s: &[u8], i: usize) -> Tally {
-    if byte_at(s, i) == b'\n' {
-        run_line(t, s, i)
-    } else {
-        t
+// The end of an item, at b.
+fn settle(i: Item, x: &mut [u16; 100], w: &mut [u8; 65536], b: u8) {
+    let field = x[trial::FIELD];
+    if i.name != 0 {
+        match field {
+            trial::BEFORE => before::put_item(i, x, w),
+            trial::BYTES => before::put_byte(i.name, x, w),
+            trial::AFTER => after::see_item(i, x, w),
+            _ => {}
+        }
+    }
+    if b == b'|' {
+        turn(x, w);
     }
 }
 
-// One that has no line end.
-fn last_line(t: Tally, s: &[u8]) -> Tally {
-    if t.from < s.len() {
-        run_line(t, s, s.len())
-    } else {
-        t
+// The line and the instruction are written again.
+fn echo(field: u16, b: u8) {
+    if (field < trial::BEFORE) & (b != b'|') & (b != b'\n') {
+        report::write_letter(b);
     }
 }
 
-fn write_total(t: Tally) {
-    io::print_decimal(1, t.boxes);
-    io::write_all(1, b" boxes, ");
-    io::print_decimal(1, t.wrong);
-    io::write_all(1, b" wrong\n");
+fn goes_on(b: u8) -> bool {
+    (b != b' ') & (b != b'|') & (b != b'\n')
+}
+
+fn end_line(x: &mut [u16; 100], y: &mut [u16; 100], w: &mut [u8; 65536], v: &mut [u8; 65536]) {
+    after::end_box(x, y);
+    trial::begin_again(x, 0);
+    trial::begin_again(y, 0xFF);
+    *w = [0; 65536];
+    *v = [0; 65536];
+}
+
+fn take(
+    i: Item,
+    x: &mut [u16; 100],
+    y: &mut [u16; 100],
+    w: &mut [u8; 65536],
+    v: &mut [u8; 65536],
+    b: u8,
+) -> Item {
+    trial::begin_line(x, b);
+    trial::begin_line(y, b);
+    echo(x[trial::FIELD], b);
+    if goes_on(b) {
+        return i.letter(b);
+    }
+    settle(i, x, w, b);
+    settle(i, y, v, b);
+    if b == b'\n' {
+        end_line(x, y, w, v);
+    }
+    item::empty()
+}
+
+fn write_total(x: &[u16; 100]) {
+    report::write_total(x[trial::BOXES], b" boxes, ", x[trial::WRONG]);
 }
 
 fn run_boxes(s: &[u8]) {
-    let mut t = Tally {
-        from: 0,
-        boxes: 0,
-        wrong: 0,
-    };
+    let mut x = trial::start(0);
+    let mut y = trial::start(0xFF);
+    let mut w = [0u8; 65536];
+    let mut v = [0u8; 65536];
+    let mut item = item::empty();
     let mut i = 0;
     while i < s.len() {
-        t = take_byte(t, s, i);
+        item = take(item, &mut x, &mut y, &mut w, &mut v, s[i]);
         i += 1;
     }
-    write_total(last_line(t, s));
+    take(item, &mut x, &mut y, &mut w, &mut v, b'\n');
+    write_total(&x);
 }
 
 fn main() {

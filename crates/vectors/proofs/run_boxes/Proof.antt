@@ -1,15 +1,19 @@
 -- The letters that are left are fewer with each turn.
 use Prim.Native.Nat.{_-_}
+use borrow.Author.Needs.{needs}
 use lib.ListN.{length}
 use native.Mathlib.Omega.{arith}
 use Rattle.vectors.proofs.run_boxes.Statement.{statement}
 use Rattle.vectors.proofs.run_boxes.Tie as tie
 
 abbrev Inv-loop : tie.InvT-loop
-Inv-loop s t₀ i₀ t i = Unit {0}
+Inv-loop s x₀ y₀ w₀ v₀ item₀ i₀ x y w v item i = Unit {0}
 
 abbrev μ-loop : tie.MeasureT-loop
-μ-loop s t₀ i₀ t i = length s - i
+μ-loop s x₀ y₀ w₀ v₀ item₀ i₀ x y w v item i = length s - i
+
+shared-slice-read-take : tie.Need-shared-slice-read-take Inv-loop μ-loop
+shared-slice-read-take c = search needs
 
 add-i : tie.Need-add-i Inv-loop μ-loop
 add-i c = omega arith
@@ -19,4 +23,5 @@ loop-less c = omega arith
 
 pub run-boxes-spec : {M : Type 1} → statement M
 run-boxes-spec =
-    tie.close (tie.spec Inv-loop μ-loop (λ c. tt) (λ c κs. tt) add-i loop-less (λ c. tt) (λ c κs. tt) (λ c κs. tt) (λ c. tt))
+    tie.close
+    (tie.spec Inv-loop μ-loop (λ c κs. tt) (λ c κs. tt) (λ c κs. tt) (λ c. tt) shared-slice-read-take (λ c κs. tt) add-i loop-less (λ c. tt) (λ c κs. tt) (λ c κs. tt) (λ c. tt))

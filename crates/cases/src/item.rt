@@ -1,9 +1,10 @@
-// An item of a box, NAME=VALUE, as far as it has been read; a byte of the instruction is a name alone.
+// An item as far as it has been read: a name, and after a mark a value in hexadecimal capitals.
 pub struct Item {
     // The name's letters, eight at most, as one number.
     pub name: u64,
-    pub valued: bool,
-    pub value: u64,
+    // = or ?, or 0.
+    pub mark: u8,
+    pub value: u32,
     // How many letters the value has, and whether all are hexadecimal digits.
     pub letters: u8,
     pub hex: bool,
@@ -15,17 +16,13 @@ pub struct Item {
 pub fn empty() -> Item {
     Item {
         name: 0,
-        valued: false,
+        mark: 0,
         value: 0,
         letters: 0,
         hex: true,
         ones: 0,
         shown: 0,
     }
-}
-
-pub fn wide(x: u8) -> u64 {
-    x as u64
 }
 
 // 16 for no digit.
@@ -37,33 +34,15 @@ pub fn digit(b: u8) -> u8 {
     }
 }
 
-// The number that the last two letters of a name make.
-pub fn pair(name: u64) -> u8 {
-    let high = digit((name / 256 % 256) as u8) % 16;
-    let low = digit((name % 256) as u8) % 16;
-    high * 16 + low
-}
-
-fn is_pair(name: u64) -> bool {
-    (digit((name / 256 % 256) as u8) < 16) & (digit((name % 256) as u8) < 16)
-}
-
-pub fn is_byte(name: u64) -> bool {
-    (name / 0x10000 == 0) & is_pair(name)
-}
-
-// As [2454].
-pub fn is_address(name: u64) -> bool {
-    (name / 0x10000000000 == 0x5B)
-        & is_pair(name / 0x1000000)
-        & is_pair(name / 0x100)
-        & (name % 256 == 0x5D)
-}
-
-pub fn address(name: u64) -> u16 {
-    let high = pair(name / 0x1000000);
-    let low = pair(name / 0x100);
-    high as u16 * 256 + low as u16
+// The number that the last two letters of a name make; 256 for none.
+pub fn pair(name: u64) -> u16 {
+    let high = digit((name / 256 % 256) as u8) as u16;
+    let low = digit((name % 256) as u8) as u16;
+    if (high < 16) & (low < 16) {
+        high * 16 + low
+    } else {
+        256
+    }
 }
 
 fn shift_in(x: u8, one: bool) -> u8 {
@@ -72,11 +51,11 @@ fn shift_in(x: u8, one: bool) -> u8 {
 
 impl Item {
     pub fn letter(mut self, b: u8) -> Item {
-        if self.valued {
+        if self.mark != 0 {
             return self.value_letter(b);
         }
-        if b == b'=' {
-            self.valued = true;
+        if (b == b'=') | (b == b'?') {
+            self.mark = b;
             return self;
         }
         self.name = self.name % 0x100000000000000 * 256 + b as u64;
@@ -85,9 +64,9 @@ impl Item {
 
     fn value_letter(mut self, b: u8) -> Item {
         let d = digit(b);
-        self.value = self.value % 0x1000000000000000 * 16 + (d % 16) as u64;
+        self.value = self.value % 0x10000000 * 16 + (d % 16) as u32;
         self.letters = std::num::wrapping_add_u8(self.letters, 1);
-        self.hex = self.hex & (d < 16);
+        self.hex = self.hex & (d < 16) & (self.letters < 9);
         self.ones = shift_in(self.ones, b == b'1');
         self.shown = shift_in(self.shown, (b == b'0') | (b == b'1'));
         self
