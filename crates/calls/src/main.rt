@@ -5,51 +5,48 @@ use cases::item;
 use cases::item::Item;
 use cases::machines;
 use cases::script;
-use regs::Machine;
 
-fn answer(x: &mut [u16; 100], refusal: u8, m: Machine) {
-    x[cells::REFUSAL] = refusal as u16;
-    machines::put_machine(x, m);
-}
-
-fn step(m: Machine, x: &mut [u16; 100], w: &mut [u8]) {
+fn step(x: &mut [u16; 100], w: &mut [u8]) {
+    let m = machines::machine(*x);
     let a = host::step(m, w);
     let next = a.machine;
     let e = a.event;
-    answer(x, a.refusal, next);
+    machines::put_answer(x, a.refusal, next);
     machines::put_event(x, e);
 }
 
-fn run(m: Machine, x: &mut [u16; 100], w: &mut [u8]) {
+fn run(x: &mut [u16; 100], w: &mut [u8]) {
+    let m = machines::machine(*x);
     let a = host::run(m, w, x[cells::STEPS]);
     let next = a.machine;
     let e = a.event;
-    answer(x, a.refusal, next);
+    machines::put_answer(x, a.refusal, next);
     machines::put_event(x, e);
     x[cells::STEPS] = a.steps;
 }
 
-fn deliver(m: Machine, x: &mut [u16; 100], w: &mut [u8]) {
+fn deliver(x: &mut [u16; 100], w: &mut [u8]) {
+    let m = machines::machine(*x);
     let e = machines::event(x[cells::EVENT], x[cells::FIRST], x[cells::SECOND]);
     let a = deliver::deliver(m, w, e);
     let next = a.machine;
-    answer(x, a.refusal, next);
+    machines::put_answer(x, a.refusal, next);
 }
 
-fn make_valid(m: Machine, x: &mut [u16; 100]) {
+fn make_valid(x: &mut [u16; 100]) {
+    let m = machines::machine(*x);
     let a = valid::make_valid(m, (x[cells::N] % 256) as u8);
     let next = a.machine;
-    answer(x, a.refusal, next);
+    machines::put_answer(x, a.refusal, next);
 }
 
 // STEP, RUN, DELIVER, VALID.
 fn call(name: u64, x: &mut [u16; 100], w: &mut [u8]) {
-    let m = machines::machine(*x);
     match name {
-        0x53544550 => step(m, x, w),
-        0x52554E => run(m, x, w),
-        0x44454C49564552 => deliver(m, x, w),
-        0x56414C4944 => make_valid(m, x),
+        0x53544550 => step(x, w),
+        0x52554E => run(x, w),
+        0x44454C49564552 => deliver(x, w),
+        0x56414C4944 => make_valid(x),
         _ => {}
     }
 }

@@ -87,12 +87,17 @@ fn put_descriptors(x: &mut [u16], ds: &[u16]) {
     }
 }
 
-pub fn put_machine(x: &mut [u16; 100], m: Machine) {
+fn put_machine(x: &mut [u16; 100], m: Machine) {
     put_regs(x, m.regs);
     put_control(x, m.ctl);
     x[20] = m.mmu;
     let ds = m.ds;
     put_descriptors(x, &ds);
+}
+
+pub fn put_answer(x: &mut [u16; 100], refusal: u8, m: Machine) {
+    x[cells::REFUSAL] = refusal as u16;
+    put_machine(x, m);
 }
 
 pub fn put_event(x: &mut [u16; 100], e: Event) {

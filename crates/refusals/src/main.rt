@@ -5,26 +5,20 @@ use cases::item;
 use cases::item::Item;
 use cases::machines;
 use cases::script;
-use regs::Machine;
-
-fn answer(x: &mut [u16; 100], refusal: u8, m: Machine) {
-    x[cells::REFUSAL] = refusal as u16;
-    machines::put_machine(x, m);
-}
 
 fn deliver(x: &mut [u16; 100], w: &mut [u8]) {
     let m = machines::machine(*x);
     let e = machines::event(x[cells::EVENT], x[cells::FIRST], x[cells::SECOND]);
     let a = deliver::deliver(m, w, e);
     let next = a.machine;
-    answer(x, a.refusal, next);
+    machines::put_answer(x, a.refusal, next);
 }
 
 fn make_valid(x: &mut [u16; 100]) {
     let m = machines::machine(*x);
     let a = valid::make_valid(m, (x[cells::N] % 256) as u8);
     let next = a.machine;
-    answer(x, a.refusal, next);
+    machines::put_answer(x, a.refusal, next);
 }
 
 fn write(x: &mut [u16; 100], w: &mut [u8]) {

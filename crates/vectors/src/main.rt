@@ -16,9 +16,8 @@ fn run(x: &mut [u16; 100], w: &mut [u8; 65536]) {
     let a = host::run(m, w, x[cells::STEPS]);
     let next = a.machine;
     let e = a.event;
-    machines::put_machine(x, next);
+    machines::put_answer(x, a.refusal, next);
     machines::put_event(x, e);
-    x[cells::REFUSAL] = a.refusal as u16;
 }
 
 // The next field; the run stands between the bytes and what is after.
