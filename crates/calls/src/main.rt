@@ -47,7 +47,7 @@ fn call(name: u64, x: &mut [u16; 100], w: &mut [u8]) {
         0x52554E => run(x, w),
         0x44454C49564552 => deliver(x, w),
         0x56414C4944 => make_valid(x),
-        _ => {}
+        _ => script::unread(x, name),
     }
 }
 
@@ -73,6 +73,7 @@ fn take(i: Item, x: &mut [u16; 100], w: &mut [u8; 69632], b: u8) -> Item {
 
 fn run_cases(s: &[u8]) {
     let mut x = [0u16; 100];
+    script::clear(&mut x);
     let mut w = [0u8; 69632];
     let mut item = item::empty();
     let mut i = 0;

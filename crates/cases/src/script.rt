@@ -37,7 +37,7 @@ fn note(x: &mut [u16; 100], is: u32, want: u32) {
     }
 }
 
-fn unread(x: &mut [u16; 100], name: u64) {
+pub fn unread(x: &mut [u16; 100], name: u64) {
     report::write_unread(name);
     cells::count(x, WRONG);
 }
@@ -55,12 +55,14 @@ fn settle(i: Item, x: &mut [u16; 100], w: &mut [u8]) {
     }
 }
 
-fn clear(x: &mut [u16; 100]) {
+// Before a case. Its refusal is none of the document's until a call gives one.
+pub fn clear(x: &mut [u16; 100]) {
     let cases = x[CASES];
     let wrong = x[WRONG];
     *x = [0; 100];
     x[CASES] = cases;
     x[WRONG] = wrong;
+    x[cells::REFUSAL] = 0xFFFF;
 }
 
 fn in_name(x: &mut [u16; 100], b: u8) {

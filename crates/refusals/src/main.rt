@@ -40,7 +40,7 @@ fn call(name: u64, x: &mut [u16; 100], w: &mut [u8]) {
         0x56414C4944 => make_valid(x),
         0x5752495445 => write(x, w),
         0x52454144 => read(x, w),
-        _ => {}
+        _ => script::unread(x, name),
     }
 }
 
@@ -66,6 +66,7 @@ fn take(i: Item, x: &mut [u16; 100], w: &mut [u8; 8192], b: u8) -> Item {
 
 fn run_cases(s: &[u8]) {
     let mut x = [0u16; 100];
+    script::clear(&mut x);
     let mut w = [0u8; 8192];
     let mut item = item::empty();
     let mut i = 0;
