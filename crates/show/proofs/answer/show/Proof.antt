@@ -2,9 +2,9 @@
 use borrow.Author.Needs.{needs}
 use mathlib.Core.Path.{sym}
 use lib.Seq.{length-take-le}
-use Rattle.image.proofs.Laws.{short-3, form-refused, form-read}
-use Rattle.image.proofs.show.Statement.{statement}
-use Rattle.image.proofs.show.Tie as tie
+use Rattle.show.proofs.Laws.{short-3, form-refused, form-read}
+use Rattle.show.proofs.answer.show.Statement.{statement}
+use Rattle.show.proofs.answer.show.Tie as tie
 
 returns : tie.Need-returns
 returns c = short-3 _ (c .if1 .taken)

@@ -16,11 +16,11 @@ use Rattle.form.specs.Form.{refused, readForm}
 use Rattle.form.proofs.Tests.{length-3}
 use Rattle.host.specs.declared.Ran.{Ran}
 use Rattle.host.specs.Host.{ran, runOf}
-use Rattle.image.specs.declared.Shown.{Shown}
-use Rattle.image.specs.declared.Shown.the-variants.{Refused, Ended}
+use Rattle.show.specs.declared.answer.Shown.{Shown}
+use Rattle.show.specs.declared.answer.Shown.the-variants.{Refused, Ended}
 use Rattle.events.specs.declared.Numbered.{Numbered}
 use Rattle.events.specs.Events.{eventNumbers}
-use Rattle.image.specs.Image.{outcome, worked, answered, shownOf}
+use Rattle.show.specs.Image.{outcome, worked, answered, shownOf}
 
 module _ (m : Machine) (f : ℕ) (w : List ℕ) where
   pub run-ended : (r : Ran) (new : List ℕ) (k : Numbered) → length w ≡ f * 4096 → ran r new ≡ runOf m w 1000 → k ≡ eventNumbers (eventOf (r .event)) →

@@ -1,9 +1,9 @@
 -- `put_decimal`: five digits without the zeros in front.
 use borrow.Author.Needs.{needs}
 use native.Mathlib.Omega.{arith}
-use Rattle.image.proofs.Text.{digits, few}
-use Rattle.image.proofs.line.put_decimal.Statement.{statement}
-use Rattle.image.proofs.line.put_decimal.Tie as tie
+use Rattle.show.proofs.Text.{digits, few}
+use Rattle.show.proofs.line.put_decimal.Statement.{statement}
+use Rattle.show.proofs.line.put_decimal.Tie as tie
 
 returns : tie.Need-returns
 returns c =

@@ -4,8 +4,8 @@ ghost use Prim.Native.Nat.{_+_, _%_, _≤_};
 ghost use lib.ListN.{length};
 ghost use Rattle.io.specs.Counts.{Counts};
 ghost use Rattle.pack.specs.Pack.{pasted};
-ghost use Rattle.image.specs.Line.{glyph as Line·glyph, fourHex, fiveDigits, zerosBefore, decimal, Spells, refusedLine, endedLine, lineOf};
-use crate::Shown;
+ghost use Rattle.show.specs.Line.{glyph as Line·glyph, fourHex, fiveDigits, zerosBefore, decimal, Spells, refusedLine, endedLine, lineOf};
+use crate::answer::Shown;
 use pack::put_bytes;
 
 // The first n bytes of text; the longest line has 31.

@@ -1,8 +1,8 @@
 -- `work`: exactly the frames are run; any other memory is refused.
 use borrow.Author.Needs.{needs}
-use Rattle.image.proofs.Laws.{run-ended, not-exact}
-use Rattle.image.proofs.work.Statement.{statement}
-use Rattle.image.proofs.work.Tie as tie
+use Rattle.show.proofs.Laws.{run-ended, not-exact}
+use Rattle.show.proofs.answer.work.Statement.{statement}
+use Rattle.show.proofs.answer.work.Tie as tie
 
 returns : tie.Need-returns
 returns c = run-ended _ _ _ _ _ _ (c .before .before .before .before .before .before .before .if1 .taken) (c .before .before .before .before .before .run .ensures) (c .event-numbers .ensures)

@@ -1,8 +1,6 @@
 // The printing program's answer to its input, on slices: a stored form, then exactly its frames, then 1,000 steps.
-pub mod line;
-
 ghost use mathlib.Core.Path.{_≡_};
-ghost use Rattle.image.specs.Image.{outcome, worked, shownOf};
+ghost use Rattle.show.specs.Image.{outcome, worked, shownOf};
 use regs::Machine;
 
 pub enum Shown {

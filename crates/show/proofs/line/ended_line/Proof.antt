@@ -1,9 +1,9 @@
 -- `ended_line`: seven pieces.
 use borrow.Author.Needs.{needs}
-use Rattle.image.specs.Line.{decimal, fourHex, stopWord, stepsWord, pcWord, newline, endedLine}
-use Rattle.image.proofs.Text.{none, more}
-use Rattle.image.proofs.line.ended_line.Statement.{statement}
-use Rattle.image.proofs.line.ended_line.Tie as tie
+use Rattle.show.specs.Line.{decimal, fourHex, stopWord, stepsWord, pcWord, newline, endedLine}
+use Rattle.show.proofs.Text.{none, more}
+use Rattle.show.proofs.line.ended_line.Statement.{statement}
+use Rattle.show.proofs.line.ended_line.Tie as tie
 
 returns : tie.Need-returns
 unfolding endedLine

@@ -1,9 +1,9 @@
 -- `zeros_before`: each bound in turn.
 use borrow.Author.Needs.{needs}
 use borrow.Author.Tests.{lt-ltb, le-ltb}
-use Rattle.image.specs.Line.{zerosBefore}
-use Rattle.image.proofs.line.zeros_before.Statement.{statement}
-use Rattle.image.proofs.line.zeros_before.Tie as tie
+use Rattle.show.specs.Line.{zerosBefore}
+use Rattle.show.proofs.line.zeros_before.Statement.{statement}
+use Rattle.show.proofs.line.zeros_before.Tie as tie
 
 returns : tie.Need-returns
 unfolding zerosBefore
