@@ -16,8 +16,8 @@ use Rattle.form.specs.Form.{refused, readForm}
 use Rattle.form.proofs.Tests.{length-3}
 use Rattle.host.specs.declared.Ran.{Ran}
 use Rattle.host.specs.Host.{ran, runOf}
-use Rattle.show.specs.declared.answer.Shown.{Shown}
-use Rattle.show.specs.declared.answer.Shown.the-variants.{Refused, Ended}
+use Rattle.line.specs.declared.Shown.{Shown}
+use Rattle.line.specs.declared.Shown.the-variants.{Refused, Ended}
 use Rattle.events.specs.declared.Numbered.{Numbered}
 use Rattle.events.specs.Events.{eventNumbers}
 use Rattle.show.specs.Image.{outcome, worked, answered, shownOf}

@@ -14,10 +14,10 @@ use Rattle.form.specs.declared.Restored.{Restored}
 use Rattle.form.specs.Form.{readForm}
 use Rattle.form.proofs.Accepted.{Accepted, accepted, whole}
 use Rattle.host.specs.Host.{refusalOf, runOf}
-use Rattle.show.specs.declared.answer.Shown.{Shown}
-use Rattle.show.specs.declared.answer.Shown.the-variants.{Refused}
-use Rattle.show.specs.declared.line.Line.{Line}
-use Rattle.show.specs.Line.{Spells}
+use Rattle.line.specs.declared.Shown.{Shown}
+use Rattle.line.specs.declared.Shown.the-variants.{Refused}
+use Rattle.line.specs.declared.Line.{Line}
+use Rattle.line.specs.Line.{Spells}
 use Rattle.show.specs.Image.{Outcome, outcome, worked, answered, shownOf}
 
 -- ---- an accepted form

@@ -11,8 +11,8 @@ use Rattle.form.specs.declared.Restored.{Restored}
 use Rattle.form.specs.Form.{formLength, readForm}
 use Rattle.events.specs.Events.{eventNumbers}
 use Rattle.host.specs.Host.{runOf}
-use Rattle.show.specs.declared.answer.Shown.{Shown}
-use Rattle.show.specs.declared.answer.Shown.the-variants.{Refused, Ended}
+use Rattle.line.specs.declared.Shown.{Shown}
+use Rattle.line.specs.declared.Shown.the-variants.{Refused, Ended}
 
 -- ---- the answer, with the bytes of the input afterwards
 

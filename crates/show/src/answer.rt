@@ -1,14 +1,8 @@
 // The printing program's answer to its input, on slices: a stored form, then exactly its frames, then 1,000 steps.
 ghost use mathlib.Core.Path.{_≡_};
 ghost use Rattle.show.specs.Image.{outcome, worked, shownOf};
+use line::Shown;
 use regs::Machine;
-
-pub enum Shown {
-    // The refusal's number.
-    Refused(u8),
-    // The event's number, the steps that completed, PC.
-    Ended(u16, u16, u16),
-}
 
 const FORM: usize = 101;
 

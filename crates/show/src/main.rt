@@ -1,6 +1,5 @@
 // Reads a stored form and its memory from standard input, runs 1,000 steps and prints one line.
 mod answer;
-mod line;
 
 fn main() {
     // A form, sixteen frames and a byte: what a longer input holds changes nothing.

@@ -1,9 +1,9 @@
 -- `ended_line`: seven pieces.
 use borrow.Author.Needs.{needs}
-use Rattle.show.specs.Line.{decimal, fourHex, stopWord, stepsWord, pcWord, newline, endedLine}
-use Rattle.show.proofs.Text.{none, more}
-use Rattle.show.proofs.line.ended_line.Statement.{statement}
-use Rattle.show.proofs.line.ended_line.Tie as tie
+use Rattle.line.specs.Line.{decimal, fourHex, stopWord, stepsWord, pcWord, newline, endedLine}
+use Rattle.line.proofs.Text.{none, more}
+use Rattle.line.proofs.ended_line.Statement.{statement}
+use Rattle.line.proofs.ended_line.Tie as tie
 
 returns : tie.Need-returns
 unfolding endedLine

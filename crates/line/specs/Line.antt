@@ -5,9 +5,9 @@ use mathlib.Core.Bool.{cond}
 use mathlib.Core.List.{List, [], _∷_, _++_}
 use lib.Dec.{ltb}
 use lib.ListN.{length, drop, replicate}
-use Rattle.show.specs.declared.line.Line.{Line}
-use Rattle.show.specs.declared.answer.Shown.{Shown}
-use Rattle.show.specs.declared.answer.Shown.the-variants.{Refused, Ended}
+use Rattle.line.specs.declared.Line.{Line}
+use Rattle.line.specs.declared.Shown.{Shown}
+use Rattle.line.specs.declared.Shown.the-variants.{Refused, Ended}
 
 -- 0 to 9, then A to F
 abbrev pub glyph : ℕ → ℕ

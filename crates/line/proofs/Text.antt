@@ -7,7 +7,7 @@ use lib.ListN.{length, take, drop, length-append, length-drop}
 use lib.Seq.{take-all, take-at, drop-append-add, drop-drop}
 use Rattle.io.specs.Counts.{Counts}
 use Rattle.pack.specs.Pack.{pasted}
-use Rattle.show.specs.Line.{fiveDigits, zerosBefore, decimal, Over}
+use Rattle.line.specs.Line.{fiveDigits, zerosBefore, decimal, Over}
 
 pub none : (old : List ℕ) → Over [] old 0 old
 none old = record { long = refl; spelt = refl }

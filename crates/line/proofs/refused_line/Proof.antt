@@ -1,9 +1,9 @@
 -- `refused_line`: three pieces.
 use borrow.Author.Needs.{needs}
-use Rattle.show.specs.Line.{decimal, refusedWord, newline, refusedLine}
-use Rattle.show.proofs.Text.{none, more}
-use Rattle.show.proofs.line.refused_line.Statement.{statement}
-use Rattle.show.proofs.line.refused_line.Tie as tie
+use Rattle.line.specs.Line.{decimal, refusedWord, newline, refusedLine}
+use Rattle.line.proofs.Text.{none, more}
+use Rattle.line.proofs.refused_line.Statement.{statement}
+use Rattle.line.proofs.refused_line.Tie as tie
 
 returns : tie.Need-returns
 unfolding refusedLine

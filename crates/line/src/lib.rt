@@ -1,12 +1,18 @@
-// The line that is printed.
+// What the printing program shows, and its line.
 ghost use mathlib.Core.Path.{_≡_};
 ghost use Prim.Native.Nat.{_+_, _%_, _≤_};
 ghost use lib.ListN.{length};
 ghost use Rattle.io.specs.Counts.{Counts};
 ghost use Rattle.pack.specs.Pack.{pasted};
-ghost use Rattle.show.specs.Line.{glyph as Line·glyph, fourHex, fiveDigits, zerosBefore, decimal, Spells, refusedLine, endedLine, lineOf};
-use crate::answer::Shown;
+ghost use Rattle.line.specs.Line.{glyph as Line·glyph, fourHex, fiveDigits, zerosBefore, decimal, Spells, refusedLine, endedLine, lineOf};
 use pack::put_bytes;
+
+pub enum Shown {
+    // The refusal's number.
+    Refused(u8),
+    // The event's number, the steps that completed, PC.
+    Ended(u16, u16, u16),
+}
 
 // The first n bytes of text; the longest line has 31.
 pub struct Line {

@@ -1,8 +1,8 @@
 -- `glyph`: below ten a digit, else a letter.
 use borrow.Author.Needs.{needs}
 use borrow.Author.Tests.{lt-ltb, le-ltb}
-use Rattle.show.proofs.line.glyph.Statement.{statement}
-use Rattle.show.proofs.line.glyph.Tie as tie
+use Rattle.line.proofs.glyph.Statement.{statement}
+use Rattle.line.proofs.glyph.Tie as tie
 
 returns : tie.Need-returns
 returns c = simp (lt-ltb _ _ (c .if1 .taken))

@@ -1,8 +1,8 @@
 -- `line_for`: the line of each case.
 use borrow.Author.Needs.{needs}
-use Rattle.show.proofs.Text.{counted}
-use Rattle.show.proofs.line.line_for.Statement.{statement}
-use Rattle.show.proofs.line.line_for.Tie as tie
+use Rattle.line.proofs.Text.{counted}
+use Rattle.line.proofs.line_for.Statement.{statement}
+use Rattle.line.proofs.line_for.Tie as tie
 
 returns : tie.Need-returns
 returns c = (simp (c .before .before .s .given .1, c .before .before .before .match .keys1) (c .refused-line .ensures), counted (c .refused-line .ensures))
