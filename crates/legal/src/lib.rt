@@ -1,4 +1,6 @@
 // Which machine records and memories are allowed, and the record at reset.
+#![tactic(auto)]
+
 ghost use Rattle.std.specs.Prelude.{◌≡◌};
 ghost use Rattle.legal.specs.Legal.{whole_frames, allowed_control, allowed_bits, reset_record};
 

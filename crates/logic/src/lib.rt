@@ -1,4 +1,6 @@
 // Logic, rotates, shifts and single bits of a byte, and the eight operations on the accumulator by their code.
+#![tactic(auto)]
+
 ghost use Rattle.std.specs.Prelude.{◌≡◌, true, false, ◌+◌, ◌*◌, ◌/◌, ◌%◌, ◌^◌, ◌≤◌};
 ghost use Rattle.logic.specs.Logic.{even, result_flags, and_of, or_of, xor_of, alu_of, cpl_of, scf_of, ccf_of};
 ghost use Rattle.logic.specs.Shift.{left_with, right_with, tset, turn_of, rotate_of, rotate_a_of, bit_test_of, res_of, set_of};

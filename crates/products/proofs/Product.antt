@@ -1,5 +1,5 @@
 -- The signed product of two numbers of k bits, from their unsigned product, proved once over the width.
-use Rattle.std.proofs.Common.{◌≡◌, ℕ, zero, suc, ◌+◌, ◌-◌, ◌*◌, ◌%◌, ◌^◌, ◌<◌, ◌≤◌, Bool, true, false, cond, ◌&&◌, ◌||◌, eqb, ltb, leb, ℤ, pos, negsuc, ◌*ℤ◌, neg_ℤ, sym, refl, ap, ◌∙◌, subst, not-suc-le-zero, lt_of_le_of_lt, le_of_lt, mod-eq_of_lt, add-mul, mul-le-mul, mul-le-mul_left, mul-lt-mul_of_pos_right, le-mul_of_pos_right, arith, pow_pos, pow-add, le-ltb, lt-ltb, ne_eqb, le-leb, leb-false, leb-true}
+use Rattle.std.proofs.Common.{◌≡◌, ℕ, zero, suc, ◌+◌, ◌-◌, ◌*◌, ◌%◌, ◌^◌, ◌<◌, ◌≤◌, Bool, true, false, cond, ◌&&◌, ◌||◌, eqb, ltb, leb, ℤ, pos, negsuc, ◌*ℤ◌, neg_ℤ, sym, refl, ap, ◌∙◌, not-suc-le-zero, lt_of_le_of_lt, le_of_lt, mod-eq_of_lt, add-mul, mul-le-mul, mul-le-mul_left, mul-lt-mul_of_pos_right, le-mul_of_pos_right, arith, pow_pos, pow-add, le-ltb, lt-ltb, ne_eqb, le-leb, leb-false, leb-true}
 use mathlib.Core.Path.{subst⁻¹}
 use mathlib.Core.Bool.{or-false, false≢true}
 use native.Mathlib.Nat.{sub-zero, mod-eq-sub-mod}

@@ -1,4 +1,6 @@
 // Products of bytes and words, and the address that a signed displacement reaches.
+#![tactic(auto)]
+
 ghost use Rattle.std.specs.Prelude.{◌≡◌, ◌+◌, ◌*◌, ◌%◌, ◌<◌, ◌≤◌, if◌then◌else◌};
 ghost use Rattle.sums.specs.Flag.{packed, unpacked};
 ghost use Rattle.products.specs.Products.{displaced, product_flags, mult_of, multw_of, multu_of, multuw_of};
@@ -6,7 +8,7 @@ ghost use Rattle.products.specs.Products.{displaced, product_flags, mult_of, mul
 use sums::{Flags, Word};
 
 // A double word, and F.
-#[derive(Drop)]
+#[derive(Clone, Copy)]
 pub struct Long {
     pub value: u32,
     pub f: u8,

@@ -1,10 +1,12 @@
 // The machine record (document 01): registers, control registers, the memory unit's control word and descriptors. AF to HL always
 // mean the bank in use; the alternates end in 2.
+#![tactic(auto)]
+
 pub mod change;
 pub mod govern;
 pub mod select;
 
-#[derive(Drop)]
+#[derive(Clone, Copy)]
 pub struct Regs {
     pub af: u16,
     pub bc: u16,
@@ -25,7 +27,7 @@ pub struct Regs {
     pub bankx: bool,
 }
 
-#[derive(Drop)]
+#[derive(Clone, Copy)]
 pub struct Control {
     // Master status, trap control, I/O page, system stack limit, vector table pointer.
     pub msr: u16,
@@ -35,7 +37,7 @@ pub struct Control {
     pub vector: u16,
 }
 
-#[derive(Drop)]
+#[derive(Clone, Copy)]
 pub struct Machine {
     pub regs: Regs,
     pub ctl: Control,

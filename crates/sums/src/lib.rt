@@ -1,11 +1,13 @@
 // Sums and differences of bytes and words, and the flag register F.
 // A byte operation answers its result above F, as A stands above F in AF.
+#![tactic(auto)]
+
 ghost use Rattle.std.specs.Prelude.{◌≡◌, ◌+◌, ◌*◌, ◌/◌, ◌%◌, ◌<◌, ◌≤◌};
 ghost use Rattle.sums.specs.Width.{add_value, sub_value, extended};
 ghost use Rattle.sums.specs.Flag.{bit, packed, unpacked, pair_of, word_of, added8, added16, subbed8, subbed16};
 ghost use Rattle.sums.specs.Sums.{add_of, adc_of, sub_of, sbc_of, cp_of, inc_of, dec_of, neg_of, add_hl_of, add_a_of, adcw_of, sbcw_of, addw_of, subw_of, cpw_of, negw_of};
 
-#[derive(Drop)]
+#[derive(Clone, Copy)]
 pub struct Flags {
     pub s: bool,
     pub z: bool,
@@ -16,21 +18,21 @@ pub struct Flags {
 }
 
 // A byte, and the flags that go with it.
-#[derive(Drop)]
+#[derive(Clone, Copy)]
 pub struct Byte {
     pub value: u8,
     pub flags: Flags,
 }
 
 // A word, and the flags that go with it.
-#[derive(Drop)]
+#[derive(Clone, Copy)]
 pub struct Wide {
     pub value: u16,
     pub flags: Flags,
 }
 
 // A word, and F.
-#[derive(Drop)]
+#[derive(Clone, Copy)]
 pub struct Word {
     pub value: u16,
     pub f: u8,
