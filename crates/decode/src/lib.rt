@@ -1,4 +1,6 @@
 // What an operation code means: a table of 256 entries for each opening byte sequence (document 01), proved equal to the manual's formats.
+#![tactic(auto)]
+
 ghost use Rattle.std.specs.Prelude.{◌≡◌};
 ghost use Rattle.decode.specs.Opening.{entered, tabled, opening_of, after_opening};
 ghost use Rattle.decode.specs.Entry.{op_in, reads_in, mode_in, bytes_in};

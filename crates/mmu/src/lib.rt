@@ -1,10 +1,12 @@
 // The memory unit: MMU control, 32 page descriptors, and translation of logical to physical addresses.
+#![tactic(auto)]
+
 ghost use Rattle.std.specs.Prelude.{◌≡◌, ◌+◌, ◌<◌, ◌≤◌, ◌%◌, cond, get_or};
 ghost use Rattle.mmu.specs.Translate.{mode_bits, barred, index, number_of, physical, by_descriptor, placed, marked, valid, set_modified, set_valid, change, latched};
 
 // What translation answers: a physical address, or the number of the violated descriptor.
 // A payload of 8 bytes, since an enum of 8 bytes in all is packed and unpacked at each use.
-#[derive(Drop)]
+#[derive(Clone, Copy)]
 pub enum Place {
     At(u64),
     Violates(u8),

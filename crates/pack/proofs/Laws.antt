@@ -14,12 +14,16 @@ use Rattle.pack.specs.Pack.{total, size, eights, join_from, cut, Fit, number, pa
 pub above : (ws vs : List ℕ) (n : ℕ) → Fit ws vs → join_from n ws vs / 2 ^ total ws ≡ n
 unfolding total join_from Fit
 above [] [] n f = div-one n
+above [] (v ∷ vs) n f = elim f [ ]
+above (w ∷ ws) [] n f = elim f [ ]
 above (w ∷ ws) (v ∷ vs) n f =
     rw (add_comm w (total ws), ← shr-shr, above ws vs (n * 2 ^ w + v) f.1) (high n w f.0)
 
 pub cut_join : (ws vs : List ℕ) (n : ℕ) → Fit ws vs → cut ws (join_from n ws vs) ≡ vs
 unfolding cut join_from Fit
 cut_join [] [] n f = refl
+cut_join [] (v ∷ vs) n f = elim f [ ]
+cut_join (w ∷ ws) [] n f = elim f [ ]
 cut_join (w ∷ ws) (v ∷ vs) n f =
     rw (above ws vs (n * 2 ^ w + v) f.1, cut_join ws vs (n * 2 ^ w + v) f.1, low n w f.0)
 
@@ -52,17 +56,23 @@ length_cut (w ∷ ws) n = ap suc (length_cut ws n)
 pub fit_length : (ws vs : List ℕ) → Fit ws vs → length vs ≡ length ws
 unfolding Fit
 fit_length [] [] f = refl
+fit_length [] (v ∷ vs) f = elim f [ ]
+fit_length (w ∷ ws) [] f = elim f [ ]
 fit_length (w ∷ ws) (v ∷ vs) f = ap suc (fit_length ws vs f.1)
 
 pub fit_at : (ws vs : List ℕ) → Fit ws vs → (i : ℕ) → i < length ws → get_or vs i 0 < 2 ^ get_or ws i 0
 unfolding Fit
 fit_at [] [] f i h = absurd (omega arith)
+fit_at [] (v ∷ vs) f i h = elim f [ ]
+fit_at (w ∷ ws) [] f i h = elim f [ ]
 fit_at (w ∷ ws) (v ∷ vs) f zero h = f.0
 fit_at (w ∷ ws) (v ∷ vs) f (suc i) h = fit_at ws vs f.1 i (omega arith)
 
 pub fit_append : (ws vs us xs : List ℕ) → Fit ws vs → Fit us xs → Fit (ws ++ us) (vs ++ xs)
 unfolding Fit
 fit_append [] [] us xs f g = g
+fit_append [] (v ∷ vs) us xs f g = elim f [ ]
+fit_append (w ∷ ws) [] us xs f g = elim f [ ]
 fit_append (w ∷ ws) (v ∷ vs) us xs f g = (f.0, fit_append ws vs us xs f.1 g)
 
 -- values of one width

@@ -1,4 +1,6 @@
 // Packing: the fields of any table of widths into bytes, most significant bit first, and back.
+#![tactic(auto)]
+
 ghost use Rattle.std.specs.Prelude.{◌≡◌, ◌++◌, ◌+◌, ◌/◌, ◌%◌, ◌^◌, ◌≤◌, ◌<◌, length, get_or, set, drop};
 ghost use Rattle.pack.specs.Pack.{size, Table, Fit, pack, unpack, pasted};
 ghost use Rattle.pack.specs.Field.{bit_of, with_bit, Place, Put, Got};
