@@ -1,4 +1,6 @@
 // 16 bit arithmetic: what each instruction makes of the registers, whose PC is past it already, and of its operand.
+#![tactic(auto)]
+
 ghost use Rattle.std.specs.Prelude.{◌≡◌};
 ghost use Rattle.arith16.specs.Arith16.{field_of, put_xx, adc_xx_rr, add_xx_rr, add_xx_a, aluw_by, aluw_rr, aluw_nn, aluw_m, decw_rr, decw_m, with_long, exts_hl, incw_rr, incw_m, put_product, multw_on, multw_rr, multw_nn, multw_m, neg_hl, sbc_xx_rr};
 

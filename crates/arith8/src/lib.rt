@@ -1,4 +1,6 @@
 // 8 bit arithmetic and logic: what each instruction makes of the registers, whose PC is past it already, and of its operand.
+#![tactic(auto)]
+
 ghost use Rattle.std.specs.Prelude.{◌≡◌};
 ghost use Rattle.arith8.specs.Arith8.{alu_r, alu_n, alu_m, cpl_a, field_of, dec_r, dec_m, exts_a, inc_r, inc_m, mult_on, mult_r, mult_n, mult_m, neg_a};
 

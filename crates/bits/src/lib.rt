@@ -1,4 +1,6 @@
 // BIT, RES, SET, TSET, rotates and shifts of a register or of a byte in memory.
+#![tactic(auto)]
+
 ghost use Rattle.std.specs.Prelude.{◌≡◌};
 ghost use Rattle.bits.specs.Bits.{held, bit_r, bit_m, res_r, res_m, rot_r, rot_m, rot_a, set_r, set_m, tset_r, tset_m};
 

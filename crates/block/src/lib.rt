@@ -1,4 +1,6 @@
 // Block moves and searches: one repetition, which is one step.
+#![tactic(auto)]
+
 ghost use Rattle.std.specs.Prelude.{◌≡◌};
 ghost use Rattle.block.specs.Block.{left, more, compared, counted, moved, searched, staying, seeking, cpd, cpdr, cpi, cpir, ldd, lddr, ldi, ldir};
 

@@ -2,6 +2,8 @@
 // makes one flat match of them, which can be drawn into the run's loop, and each is proved by itself.
 // The four that have to do with the alternate registers stand apart: EX AF,AF' and EXX, so that those registers never change in that
 // loop, and JAF and JAR, so that the bank bits aren't looked at there.
+#![tactic(auto)]
+
 ghost use Rattle.std.specs.Prelude.{◌≡◌, Bool, true, ℕ, ◌+◌};
 ghost use Rattle.plan.specs.declared.kinds.Spot.{Spot};
 ghost use Rattle.plan.specs.Kinds.{quiet};
@@ -12,7 +14,7 @@ use plan::kinds::{Done, Ins, Spot, still};
 use regs::Regs;
 
 // What an operation came to; `known` is false for one of those four, which is left for `swap`.
-#[derive(Drop)]
+#[derive(Clone, Copy)]
 pub struct Tried {
     pub known: bool,
     pub done: Done,

@@ -1,4 +1,6 @@
 // The privileged instructions that change control registers or the user stack pointer.
+#![tactic(auto)]
+
 ghost use Rattle.std.specs.Prelude.{◌≡◌};
 ghost use Rattle.govern.specs.Govern.{ending, masked, disabled, enabled, di_of, ei_of, di_n, ei_n, control_at, put_control_at, ldctl_xx_c, ldctl_c_xx, ldctl_usp, retil_of, governing_by, govern_of};
 

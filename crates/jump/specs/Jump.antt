@@ -39,7 +39,7 @@ call_cc r u i s = cond (met r i) (calling r u i s.a) (quiet r)
 
 -- CCF, line 2275
 unfoldable pub ccf_of : Regs → Done
-ccf_of r = quiet (with_f (logic.ccfOf (f_of r)) r)
+ccf_of r = quiet (with_f (logic.ccf_of (f_of r)) r)
 
 -- B - 1
 abbrev pub counted : Regs → ℕ
@@ -91,7 +91,7 @@ rst_of r u i = calling r u i (bits53 i * 8)
 
 -- SCF, line 6839
 unfoldable pub scf_of : Regs → Done
-scf_of r = quiet (with_f (logic.scfOf (f_of r)) r)
+scf_of r = quiet (with_f (logic.scf_of (f_of r)) r)
 
 -- NOP, line 5312
 unfoldable pub nop_of : Regs → Done

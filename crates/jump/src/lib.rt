@@ -1,4 +1,6 @@
 // Program control and NOP: jumps, calls, returns and the carry flag. PC is past the instruction already.
+#![tactic(auto)]
+
 ghost use Rattle.std.specs.Prelude.{◌≡◌};
 ghost use Rattle.jump.specs.Jump.{relative, jumping, calling, popping, call_of, call_cc, ccf_of, djnz_of, jaf_of, jar_of, jp_of, jp_cc, jp_xx, jr_of, jr_cc, ret_of, ret_cc, rst_of, scf_of, nop_of};
 

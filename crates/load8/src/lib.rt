@@ -1,4 +1,6 @@
 // The 8 bit load group: what each instruction makes of the registers, whose PC is past it already, and of its operand.
+#![tactic(auto)]
+
 ghost use Rattle.std.specs.Prelude.{◌≡◌};
 ghost use Rattle.load8.specs.Load8.{ex_a_r, ex_a_m, ex_h_l, ld_a_m, ld_m_a, ld_r_n, ld_m_n, ld_r_r, ld_r_m, ld_m_r};
 

@@ -5,7 +5,7 @@ ghost use Rattle.plan.specs.Kinds.{quiet, stores, stores_word, plus, byte, word,
 use regs::{Control, Regs};
 
 // Events 3 to 9 of document 01, with what each carries.
-#[derive(Drop)]
+#[derive(Clone, Copy)]
 pub enum Stop {
     Privileged(u16),
     // The operand, the next address.
@@ -20,7 +20,7 @@ pub enum Stop {
 
 // An instruction that was fetched whole: what its table says (operation, mode, bytes read at the operand's place), and in `arg` the
 // bytes beside the operation code, low byte first.
-#[derive(Drop)]
+#[derive(Clone, Copy)]
 pub struct Ins {
     pub opening: u8,
     pub code: u8,
@@ -34,7 +34,7 @@ pub struct Ins {
 }
 
 // Where an operand lies: by program or by data, at a logical address, and how many bytes of it are read.
-#[derive(Drop)]
+#[derive(Clone, Copy)]
 pub struct Spot {
     pub program: bool,
     pub a: u16,
@@ -42,14 +42,14 @@ pub struct Spot {
 }
 
 // Stage 3's answer: an event, with the PC that it leaves; or the step goes on.
-#[derive(Drop)]
+#[derive(Clone, Copy)]
 pub enum Early {
     Ends(u16, Stop),
     On,
 }
 
 // What is written at the end: by program or by data, at a logical address; a word low byte first.
-#[derive(Drop)]
+#[derive(Clone, Copy)]
 pub enum Write {
     Nothing,
     One(bool, u16, u8),
@@ -57,14 +57,14 @@ pub enum Write {
 }
 
 // What an instruction ends with.
-#[derive(Drop)]
+#[derive(Clone, Copy)]
 pub struct Done {
     pub regs: Regs,
     pub write: Write,
 }
 
 // What one that changes control registers ends with.
-#[derive(Drop)]
+#[derive(Clone, Copy)]
 pub struct Governed {
     pub regs: Regs,
     pub ctl: Control,
