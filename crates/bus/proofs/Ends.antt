@@ -1,5 +1,5 @@
 -- A law for each way out of the end of a step, over plain values.
-use Rattle.std.proofs.Common.{◌≡◌, ℕ, ◌/◌, ◌%◌, ◌<◌, Bool, true, false, ltb, List, [], length, set, sym, refl, ap, ◌∙◌, inl, inr, arith, ltb-true}
+use Rattle.std.proofs.Common.{◌≡◌, ℕ, ◌/◌, ◌%◌, ◌<◌, Bool, true, false, ltb, List, length, set, sym, refl, ap, ◌∙◌, arith, ltb-true}
 use Rattle.mmu.specs.Translate.{mode_bits, translate, marked, latched}
 use Rattle.mmu.specs.declared.Place.{Place}
 use Rattle.mmu.specs.declared.Place.TheVariants.{At, Violates}
@@ -21,8 +21,7 @@ use Rattle.bus.proofs.Reading.{Lost}
 -- a denied access ends the step, whatever was to follow
 pub after_denied : (s : b.State real) (g : Got) (f : ℕ → b.Answer real) → Lost g → denial s g ≡ b.after s g f
 unfolding denial b.after
-after_denied s (Byte x) f (inl h) = let z : ◌≡◌ {A = ℕ} 0 1 = h in absurd (omega arith)
-after_denied s (Byte x) f (inr h) = let z : ◌≡◌ {A = ℕ} 0 2 = h in absurd (omega arith)
+after_denied s (Byte x) f h = absurd (h x refl)
 after_denied s (Denied i) f h = refl
 after_denied s (Lacks p) f h = refl
 
@@ -72,7 +71,7 @@ module _ (u : Bool) (mmu : ℕ) (ds w : List ℕ) where
 
   one_is : (r q : Regs) (c : Control) (k : Bool) (a v : ℕ) → user_of c ≡ u →
       b.writes (state_of r c mmu ds w) q (one_write k a v) ds w ≡ b.after (state_of r c mmu ds w) (room k a) (λ x. one_end (state_of r c mmu ds w) q c k a v x)
-  unfolding b.writes b.writeTo room_for b.touch room mark one_end
+  unfolding b.writes b.write_to room_for b.touch room mark one_end
   one_is r q c k a v e = rw e
 
   pub lost_1 : (k : Bool) (a v : ℕ) (g : Got) → g ≡ room_for u mmu ds (length w) k a → Lost g → Wrote u mmu (one_write k a v) g ds w ds w
@@ -100,7 +99,7 @@ module _ (u : Bool) (mmu : ℕ) (ds w : List ℕ) where
   two_is : (r q : Regs) (c : Control) (k : Bool) (a v : ℕ) → user_of c ≡ u →
       b.writes (state_of r c mmu ds w) q (two_writes k a v) ds w ≡
       b.after (state_of r c mmu ds w) (room k a) (λ p. b.after (state_of r c mmu ds w) (room k (next a)) (λ x. two_end (state_of r c mmu ds w) q c k a v p x))
-  unfolding b.writes b.writeTo room_for b.touch room mark two_end
+  unfolding b.writes b.write_to room_for b.touch room mark two_end
   two_is r q c k a v e = rw e
 
   two_first : (r q : Regs) (c : Control) (k : Bool) (a v p : ℕ) (g : Got) → user_of c ≡ u → g ≡ room k a → g ≡ Byte p →
@@ -155,12 +154,12 @@ module _ (u : Bool) (mmu : ℕ) (ds w : List ℕ) (x : wr.Write) where
 
 -- ── places within memory ──
 
-room_in : (p n x : ℕ) (t : Bool) → ltb x n ≡ t → b.ifRoom x t ≡ Byte p → p < n
-unfolding b.ifRoom
+room_in : (p n x : ℕ) (t : Bool) → ltb x n ≡ t → b.if_room x t ≡ Byte p → p < n
+unfolding b.if_room
 room_in p n x true h e = let y : x ≡ p = cc in rw (← y) (ltb-true x n h)
 room_in p n x false h e = let z : ◌≡◌ {A = ℕ} 0 1 = cc in absurd (omega arith)
 
-through_in : (p n : ℕ) (x : Place) → b.through (λ y. b.ifRoom y (ltb y n)) x ≡ Byte p → p < n
+through_in : (p n : ℕ) (x : Place) → b.through (λ y. b.if_room y (ltb y n)) x ≡ Byte p → p < n
 unfolding b.through
 through_in p n (At x) e = room_in p n x (ltb x n) refl e
 through_in p n (Violates i) e = let z : ◌≡◌ {A = ℕ} 0 1 = cc in absurd (omega arith)

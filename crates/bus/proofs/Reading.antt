@@ -1,8 +1,5 @@
 -- Several bytes one after another: a way's facts in, the definition's answer out.
-use Rattle.std.proofs.Common.{◌≡◌, ℕ, zero, suc, ◌+◌, ◌-◌, ◌≤◌, Bool, true, false, eqb, ltb, ◌⊎◌, List, [], ◌∷◌, sym, refl, ap, ◌∙◌, inl, inr, arith, ltb-false, ne_eqb, eqb-true}
-use types.Run.{OneOf}
-use denote.Enum.Declared.{tag_of}
-use Rattle.board.specs.contracts.Got as G
+use Rattle.std.proofs.Common.{◌≡◌, ℕ, zero, suc, ◌+◌, ◌-◌, ◌≤◌, Bool, true, false, eqb, ltb, ◌⊎◌, List, sym, refl, ap, ◌∙◌, inl, inr, arith, ltb-false, ne_eqb, eqb-true}
 use Rattle.board.specs.declared.Got.{Got}
 use Rattle.board.specs.declared.Got.TheVariants.{Byte, Denied, Lacks}
 use lib.ListN.{get_or-eq_default}
@@ -11,12 +8,11 @@ use Rattle.bus.specs.Access.{next, read_from, got_many, got_few, joined, and_the
 
 -- what the other side of `let Got::Byte(b) = g else` knows
 abbrev pub Lost : Got → Type 0
-Lost g = OneOf (1 ∷ 2 ∷ []) (tag_of G.the_type g)
+Lost g = (b : ℕ) → g ≡ Byte b → ⊥
 
 and_lost : (g : Got) (f : ℕ → Got) → Lost g → g ≡ and_then g f
 unfolding and_then
-and_lost (Byte b) f (inl h) = let z : ◌≡◌ {A = ℕ} 0 1 = h in absurd (omega arith)
-and_lost (Byte b) f (inr h) = let z : ◌≡◌ {A = ℕ} 0 2 = h in absurd (omega arith)
+and_lost (Byte b) f h = absurd (h b refl)
 and_lost (Denied i) f h = refl
 and_lost (Lacks p) f h = refl
 

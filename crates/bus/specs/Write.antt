@@ -6,7 +6,6 @@ use Rattle.board.specs.declared.Got.TheVariants.{Byte, Denied, Lacks}
 use Rattle.regs.specs.declared.Regs.{Regs}
 use Rattle.regs.specs.declared.Control.{Control}
 use Rattle.regs.specs.Select.{user_of}
-use Rattle.bus.specs.Board.{real}
 use Rattle.bus.specs.Leave.{state_of}
 
 -- what is there after a fault is what was there before

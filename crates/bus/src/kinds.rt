@@ -4,7 +4,7 @@ use regs::{Control, Regs};
 
 // Events 0 to 9 of document 01: completed; access violation with descriptor number and address; no memory at a physical address;
 // and 3 to 9.
-#[derive(Drop)]
+#[derive(Clone, Copy)]
 pub enum Event {
     Completed,
     Violation(u8, u16),
@@ -12,7 +12,7 @@ pub enum Event {
     Stopped(Stop),
 }
 
-#[derive(Drop)]
+#[derive(Clone, Copy)]
 pub struct Turn {
     pub regs: Regs,
     pub ctl: Control,

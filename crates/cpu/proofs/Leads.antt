@@ -1,7 +1,6 @@
 -- The fetch of an opening sequence: what its program comes to, and a law for each way out of its functions.
 use Prim.Native.Nat.{ℕ, ◌%◌}
 use mathlib.Core.Path.{◌≡◌, refl, sym, ◌∙◌, ap}
-use mathlib.Core.Logic.{inl, inr}
 use mathlib.Core.Bool.{Bool, true, false, cond}
 use mathlib.Core.List.{List}
 use native.Mathlib.Omega.{arith}
@@ -55,7 +54,7 @@ module _ (r : Regs) (c : Control) (mmu : ℕ) (ds w : List ℕ) (f : Rest) where
   -- one access of the fetch
   by_read : (a : ℕ) (h : ℕ → b.Prog real) (l : ℕ → Lead) → ((x : ℕ) → b.exec (h x) s ≡ on_lead s (l x) k) →
       b.exec (b.read true a h) s ≡ on_lead s (lead_by (read_from (user_of c) mmu ds w true a) l) k
-  unfolding b.exec b.readByte read_from s
+  unfolding b.exec b.read_byte read_from s
   by_read a h l p = by_lead s k (read_from (user_of c) mmu ds w true a) (λ x. b.exec (h x) s) l p
 
   exec_fourth : (a o d : ℕ) → b.exec (fourth f a o d) s ≡ on_lead s (lead_fourth (user_of c) mmu ds w a o d) k
@@ -96,8 +95,7 @@ module _ (r : Regs) (c : Control) (mmu : ℕ) (ds w : List ℕ) (f : Rest) where
 
 lost_by : (g : Got) (l : ℕ → Lead) → Lost g → lost_lead g ≡ lead_by g l
 unfolding lost_lead lead_by
-lost_by (Byte x) l (inl h) = let z : ◌≡◌ {A = ℕ} 0 1 = h in absurd (omega arith)
-lost_by (Byte x) l (inr h) = let z : ◌≡◌ {A = ℕ} 0 2 = h in absurd (omega arith)
+lost_by (Byte x) l h = absurd (h x refl)
 lost_by (Denied i) l h = refl
 lost_by (Lacks p) l h = refl
 

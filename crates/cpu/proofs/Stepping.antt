@@ -1,13 +1,9 @@
 -- A law for each way on and out of the functions of a step, over plain values.
 use Prim.Native.Nat.{ℕ, ◌%◌}
 use mathlib.Core.Path.{◌≡◌, refl, sym, ◌∙◌, ap}
-use mathlib.Core.Logic.{inl, inr}
 use mathlib.Core.Bool.{Bool, true, false}
-use mathlib.Core.List.{List, [], ◌∷◌}
-use native.Mathlib.Omega.{arith}
+use mathlib.Core.List.{List}
 use lib.Dec.{ltb}
-use types.Run.{OneOf}
-use denote.Enum.Declared.{tag_of}
 use Rattle.board.specs.Program as b
 use Rattle.board.specs.declared.Got.{Got}
 use Rattle.board.specs.declared.Got.TheVariants.{Byte, Denied, Lacks}
@@ -22,15 +18,12 @@ use Rattle.plan.specs.declared.kinds.Ins.{Ins}
 use Rattle.plan.specs.declared.kinds.Spot.{Spot}
 use Rattle.plan.specs.declared.kinds.Early.{Early}
 use Rattle.plan.specs.declared.kinds.Early.TheVariants.{Ends, On}
-use Rattle.plan.specs.declared.kinds.Governed.{Governed}
 use Rattle.plan.specs.Kinds.{quiet}
 use Rattle.plan.specs.Places.{spot_of}
-use Rattle.plan.specs.contracts.kinds.Early as Ea
 use Rattle.execute.specs.declared.Tried.{Tried}
 use Rattle.execute.specs.Execute.{execute_of}
 use Rattle.execute.specs.Tried.{swaps, tried_of}
 use Rattle.execute.proofs.Apart.{known_is, left_swaps}
-use Rattle.govern.specs.Govern.{govern_of}
 use Rattle.bus.specs.declared.kinds.Turn.{Turn}
 use Rattle.bus.specs.Board.{real}
 use Rattle.bus.specs.Access.{got_many, got_few, count}
@@ -40,15 +33,18 @@ use Rattle.bus.proofs.Reading.{Lost, few_is}
 use Rattle.bus.proofs.Ends.{after_denied}
 use Rattle.cpu.specs.declared.kinds.Lead.{Lead}
 use Rattle.cpu.specs.declared.kinds.Lead.TheVariants as lead
-use Rattle.cpu.specs.Program.{ruled, worked, early, judged, missing, ins_of, formed, program}
+use Rattle.cpu.specs.Program.{worked, early, judged, missing, ins_of, formed, program}
 use Rattle.cpu.specs.Lead.{lead_of}
 use Rattle.cpu.specs.Turns.{completed_turn, stopped_turn, ended_turn, fault_of}
-use Rattle.cpu.specs.contracts.kinds.Lead as Le
-use Rattle.cpu.proofs.Ways.{turn_code, turn_denied, turn_lacks, form_ends, form_lost, form_on, judge_ends, judge_on, operate_lost, operate_on, work_rules, work_done}
+use Rattle.cpu.proofs.Ways.{turn_code, turn_denied, turn_lacks, form_ends, form_lost, form_on, judge_ends, judge_on, operate_lost, operate_on, work_done}
 
 -- what is known of a fault's turn
 abbrev Faulted : Regs → Control → (mmu : ℕ) → Got → Turn → Type 0
 Faulted r c mmu g t = (es l : List ℕ) → whole t es l ≡ denial (state_of r c mmu es l) g
+
+-- what the other side of `let Lead::Code(..) = l else` knows
+abbrev pub LostLead : Lead → Type 0
+LostLead l = (o x d at : ℕ) → l ≡ lead.Code o x d at → ⊥
 
 module _ (u : Bool) (r : Regs) (c : Control) (mmu : ℕ) (ds w : List ℕ) (eu : u ≡ user_of c) where
   S : b.State real
@@ -59,15 +55,14 @@ module _ (u : Bool) (r : Regs) (c : Control) (mmu : ℕ) (ds w : List ℕ) (eu :
   bytes : (m at : ℕ) (g : Got) → g ≡ got_few 4 m u mmu ds w true at → g ≡ got_many (count m) (user_of c) mmu ds w true at
   bytes m at g h = h ∙ few_is m u mmu ds w true at ∙ ap (λ z. got_many (count m) z mmu ds w true at) eu
 
-  lost_lead : (l : Lead) (t : Turn) → l ≡ lead_of (user_of c) mmu ds w r.pc → OneOf (1 ∷ 2 ∷ []) (tag_of Le.the_type l) →
+  lost_lead : (l : Lead) (t : Turn) → l ≡ lead_of (user_of c) mmu ds w r.pc → LostLead l →
       Faulted r c mmu (fault_of l) t → whole t ds w ≡ b.exec (program r c) (state_of r c mmu ds w)
   unfolding fault_of
-  lost_lead (lead.Code o x d at) t e (inl k) f = let z : ◌≡◌ {A = ℕ} 0 1 = k in absurd (omega arith)
-  lost_lead (lead.Code o x d at) t e (inr k) f = let z : ◌≡◌ {A = ℕ} 0 2 = k in absurd (omega arith)
+  lost_lead (lead.Code o x d at) t e k f = absurd (k o x d at refl)
   lost_lead (lead.Denied i) t e k f = turn_denied r c mmu ds w (lead.Denied i) i t e refl f
   lost_lead (lead.Lacks p) t e k f = turn_lacks r c mmu ds w (lead.Lacks p) p t e refl f
 
-  pub at_lead : (l : Lead) (g : Got) (t : Turn) → l ≡ lead_of u mmu ds w r.pc → OneOf (1 ∷ 2 ∷ []) (tag_of Le.the_type l) → g ≡ fault_of l →
+  pub at_lead : (l : Lead) (g : Got) (t : Turn) → l ≡ lead_of u mmu ds w r.pc → LostLead l → g ≡ fault_of l →
       Faulted r c mmu g t → whole t ds w ≡ b.exec (program r c) (state_of r c mmu ds w)
   at_lead l g t e k h f = lost_lead l t (e ∙ ap (λ z. lead_of z mmu ds w r.pc) eu) k (λ es n. f es n ∙ ap (λ z. denial (state_of r c mmu es n) z) h)
 
@@ -94,13 +89,13 @@ module _ (u : Bool) (r : Regs) (c : Control) (mmu : ℕ) (ds w : List ℕ) (eu :
   -- ── judge ──
 
   module _ (i : Ins) (z : Early) (ez : z ≡ early r c i) where
-    pub at_early : (t : Turn) → OneOf (0 ∷ []) (tag_of Ea.the_type z) → t ≡ ended_turn r c mmu z → whole t ds w ≡ b.exec (judged r c i) (state_of r c mmu ds w)
+    pub at_early : (t : Turn) → (z ≡ On → ⊥) → t ≡ ended_turn r c mmu z → whole t ds w ≡ b.exec (judged r c i) (state_of r c mmu ds w)
     unfolding ended_turn
     at_early t k p = ends z ez k p
       where
-        ends : (z : Early) → z ≡ early r c i → OneOf (0 ∷ []) (tag_of Ea.the_type z) → t ≡ ended_turn r c mmu z → whole t ds w ≡ b.exec (judged r c i) (state_of r c mmu ds w)
+        ends : (z : Early) → z ≡ early r c i → (z ≡ On → ⊥) → t ≡ ended_turn r c mmu z → whole t ds w ≡ b.exec (judged r c i) (state_of r c mmu ds w)
         ends (Ends pc v) h k p = rw p (judge_ends r c mmu ds w i pc v (Ends pc v) (with_pc pc r) h refl refl)
-        ends On h k p = let y : ◌≡◌ {A = ℕ} 1 0 = k in absurd (omega arith)
+        ends On h k p = absurd (k refl)
 
     module _ (p : Spot) (zo : z ≡ On) (ep : p ≡ spot_of u r i) (h : Got) (eh : h ≡ got_many (count p.n) u mmu ds w p.program p.a) where
       read : h ≡ got_many (count p.n) (user_of c) mmu ds w p.program p.a
@@ -117,8 +112,7 @@ module _ (u : Bool) (r : Regs) (c : Control) (mmu : ℕ) (ds w : List ℕ) (eu :
 
   same_list : (g : Got) (xs ys : List ℕ) → Lost g → kept g xs ys ≡ ys → xs ≡ ys
   unfolding kept
-  same_list (Byte x) xs ys (inl k) e = let z : ◌≡◌ {A = ℕ} 0 1 = k in absurd (omega arith)
-  same_list (Byte x) xs ys (inr k) e = let z : ◌≡◌ {A = ℕ} 0 2 = k in absurd (omega arith)
+  same_list (Byte x) xs ys k e = absurd (k x refl)
   same_list (Denied i) xs ys k e = e
   same_list (Lacks p) xs ys k e = e
 

@@ -1,9 +1,9 @@
 -- A law for each way out of a stage, over plain values: a way's facts in, the execution of the stage's program out.
 use Prim.Native.Nat.{ℕ, zero, suc, ◌%◌}
 use mathlib.Core.Path.{◌≡◌, refl, sym, ◌∙◌, ap}
-use mathlib.Core.Bool.{Bool, true, false, cond}
+use mathlib.Core.Bool.{Bool, true, false}
 use mathlib.Core.List.{List}
-use lib.Dec.{eqb, ltb}
+use lib.Dec.{ltb}
 use Rattle.board.specs.Program as b
 use Rattle.board.specs.declared.Got.{Got}
 use Rattle.board.specs.declared.Got.TheVariants.{Byte, Denied, Lacks}
@@ -33,7 +33,7 @@ use Rattle.bus.proofs.Reading.{Lost}
 use Rattle.bus.proofs.Ends.{after_denied}
 use Rattle.cpu.specs.declared.kinds.Lead.{Lead}
 use Rattle.cpu.specs.declared.kinds.Lead.TheVariants as lead
-use Rattle.cpu.specs.Program.{read_n, finished, ruled, worked, operated, went, early, judged, missing, ins_of, classed, formed, leading, program}
+use Rattle.cpu.specs.Program.{read_n, finished, ruled, worked, operated, went, early, judged, missing, ins_of, classed, formed, program}
 use Rattle.cpu.specs.Lead.{lead_of}
 use Rattle.cpu.proofs.Leads.{on_lead, exec_leading}
 
@@ -53,7 +53,7 @@ module _ (r : Regs) (c : Control) (mmu : ℕ) (ds w : List ℕ) where
   got n k a = got_many n (user_of c) mmu ds w k a
 
   exec_many : (n : ℕ) (k : Bool) (a : ℕ) (f : ℕ → b.Prog real) → b.exec (read_n n k a f) s ≡ b.after s (got n k a) (λ v. b.exec (f v) s)
-  unfolding read_n got_many b.exec b.after b.readByte read_from s got
+  unfolding read_n got_many b.exec b.after b.read_byte read_from s got
   exec_many zero k a f = refl
   exec_many (suc n) k a f = go (read_from (user_of c) mmu ds w k a) (λ x. exec_many n k (next a) (λ v. f (joined x v)))
     where

@@ -1,5 +1,5 @@
 -- The machine: the program of accesses that a step is. Document 01, "One step, in order".
-use Rattle.std.specs.Prelude.{ℕ, zero, suc, ◌+◌, ◌*◌, ◌/◌, ◌%◌, Bool, true, false, cond, ◌&&◌, List, [], ◌∷◌, eqb, ltb}
+use Rattle.std.specs.Prelude.{ℕ, zero, suc, ◌/◌, ◌%◌, Bool, true, cond, ◌&&◌, eqb, ltb}
 use Rattle.board.specs.Program.{Prog, read, done, govern, stop}
 use Rattle.decode.specs.Opening.{opening_of, after_opening, entered}
 use Rattle.decode.specs.Entry.{op_in, reads_in, mode_in, bytes_in}

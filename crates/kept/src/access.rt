@@ -8,7 +8,7 @@ ghost use Rattle.kept.specs.Kept.{Right, Inside};
 ghost use Rattle.kept.specs.declared.access.Found.TheVariants.{Is};
 
 // What was read, or that the page isn't kept. A payload of 8 bytes, as in mmu's Place.
-#[derive(Drop)]
+#[derive(Clone, Copy)]
 pub enum Found {
     Is(u64),
     Gone,
