@@ -2,7 +2,7 @@
 use regs::Regs;
 
 // The registers after so many steps.
-#[derive(Drop)]
+#[derive(Clone, Copy)]
 pub struct Quick {
     pub regs: Regs,
     pub steps: u16,

@@ -1,4 +1,6 @@
 // Quick steps on words, block moves, and program control.
+#![tactic(auto)]
+
 mod entry;
 pub mod on_arith16;
 pub mod on_block;

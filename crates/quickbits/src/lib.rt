@@ -1,4 +1,6 @@
 // Quick steps on single bits, rotates and shifts.
+#![tactic(auto)]
+
 mod entry;
 pub mod on_bits;
 mod own;

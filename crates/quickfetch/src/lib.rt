@@ -1,4 +1,6 @@
 // Stage 1 up to the operation code, by kept places: where the page isn't kept, or an instruction might leave it, nothing is known.
+#![tactic(auto)]
+
 ghost use Rattle.std.specs.Prelude.{◌≡◌, Bool, true, false, List, ℕ, ◌+◌, ◌%◌, ◌<◌, ltb, length, get_or};
 ghost use Rattle.decode.specs.Opening.{tabled};
 ghost use Rattle.cpu.specs.Lead.{lead_third, lead_second, lead_first, lead_of};
@@ -10,7 +12,7 @@ ghost use Rattle.quickfetch.specs.Fetch.{Site, Leads};
 use served::kinds::Code;
 
 // A code; where it isn't known, none.
-#[derive(Drop)]
+#[derive(Clone, Copy)]
 pub struct Fetch {
     pub known: bool,
     pub code: Code,

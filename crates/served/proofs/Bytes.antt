@@ -1,18 +1,17 @@
 -- The bytes of an instruction in a kept page.
-use Prim.Native.Nat.{ℕ, zero, suc, ◌+◌, ◌-◌, ◌*◌, ◌/◌, ◌%◌, ◌≤◌, ◌<◌}
+use Prim.Native.Nat.{ℕ, zero, suc, ◌+◌, ◌-◌, ◌/◌, ◌%◌, ◌≤◌, ◌<◌}
 use mathlib.Core.Path.{◌≡◌, refl, sym, ◌∙◌, ap}
 use mathlib.Core.Bool.{Bool, true, false}
 use mathlib.Core.List.{List}
 use native.Mathlib.Omega.{arith}
-use lib.Dec.{eqb, ltb}
+use lib.Dec.{eqb}
 use lib.ListN.{length, get_or}
-use Rattle.board.specs.declared.Got.{Got}
 use Rattle.board.specs.declared.Got.TheVariants.{Byte}
-use Rattle.bus.specs.Access.{next, read_from, and_then, got_many, joined}
-use Rattle.kept.specs.Kept.{for_program, for_write, Right, Inside}
+use Rattle.bus.specs.Access.{next, read_from, and_then, got_many}
+use Rattle.kept.specs.Kept.{Right, Inside}
 use Rattle.kept.proofs.Kept.{reads}
 use Rattle.served.specs.declared.kinds.Code.{Code}
-use Rattle.served.specs.Served.{Stands, Fetched, behind}
+use Rattle.served.specs.Served.{Fetched, behind}
 
 pub in_memory : (kept w : List ℕ) (q : Code) → Fetched kept w q → q.p + 4 < length w
 in_memory kept w q F =

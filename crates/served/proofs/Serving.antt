@@ -1,26 +1,20 @@
 -- A quick step is the step: from the parts of an instruction to the execution of its program, over plain values.
-use Prim.Native.Nat.{ℕ, zero, suc, ◌+◌, ◌-◌, ◌*◌, ◌/◌, ◌%◌, ◌≤◌, ◌<◌}
+use Prim.Native.Nat.{ℕ, ◌%◌, ◌≤◌}
 use mathlib.Core.Path.{◌≡◌, refl, sym, ◌∙◌, ap}
 use mathlib.Core.Bool.{Bool, true, false, cond}
-use mathlib.Core.List.{List, []}
-use native.Mathlib.Omega.{arith}
+use mathlib.Core.List.{List}
 use borrow.Author.Tests.{eqb-true}
 use lib.Dec.{eqb, ltb}
-use lib.ListN.{length, get_or}
 use Rattle.board.specs.Program as b
-use Rattle.board.specs.declared.Got.{Got}
 use Rattle.board.specs.declared.Got.TheVariants.{Byte}
 use Rattle.regs.specs.declared.Regs.{Regs}
-use Rattle.regs.specs.declared.Control.{Control}
 use Rattle.regs.specs.Change.{with_pc}
 use Rattle.regs.specs.Select.{user_of, index_of, sp_of}
-use Rattle.decode.specs.Opening.{entered}
 use Rattle.decode.specs.Entry.{op_in, bytes_in}
 use Rattle.plan.specs.declared.kinds.Ins.{Ins}
 use Rattle.plan.specs.declared.kinds.Spot.{Spot}
 use Rattle.plan.specs.declared.kinds.Done.{Done}
 use Rattle.plan.specs.declared.kinds.Early.TheVariants.{On}
-use Rattle.plan.specs.declared.kinds.Write.{Write}
 use Rattle.plan.specs.declared.kinds.Write.TheVariants.{Nothing}
 use Rattle.plan.specs.Kinds.{quiet, byte, word}
 use Rattle.plan.specs.Places.{spot_of, data_at, met}
@@ -28,16 +22,16 @@ use Rattle.products.specs.Products.{displaced}
 use Rattle.jump.specs.Jump.{jumping, popping, ret_cc}
 use Rattle.execute.specs.Execute.{execute_of}
 use Rattle.bus.specs.Board.{real}
-use Rattle.bus.specs.Access.{next, read_from, and_then, got_many, joined, count}
-use Rattle.bus.specs.Leave.{event_of, state_of, whole, listed}
-use Rattle.bus.specs.Write.{kept, Wrote}
-use Rattle.cpu.specs.Program.{early, ins_of, formed, judged}
+use Rattle.bus.specs.Access.{got_many, count}
+use Rattle.bus.specs.Leave.{event_of, whole, listed}
+use Rattle.bus.specs.Write.{Wrote}
+use Rattle.cpu.specs.Program.{early, ins_of}
 use Rattle.cpu.specs.Turns.{completed_turn}
 use Rattle.cpu.proofs.Ways.{form_on, judge_on, operate_on, work_done}
-use Rattle.kept.specs.Kept.{Right, Inside}
+use Rattle.kept.specs.Kept.{Right}
 use Rattle.served.specs.declared.kinds.Code.{Code}
 use Rattle.served.specs.declared.kinds.Acted.{Acted}
-use Rattle.served.specs.Served.{Fetched, Stands, before, behind, ins_at, Serves, Served}
+use Rattle.served.specs.Served.{Fetched, before, behind, ins_at, Serves, Served}
 use Rattle.served.proofs.Bytes.{behind_is}
 use Rattle.served.proofs.Storing.{never, no_writes}
 

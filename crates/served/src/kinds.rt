@@ -2,7 +2,7 @@
 use regs::Regs;
 
 // A code that was fetched: its table's entry e, the opening o, the operation code b; the logical address behind it, and the physical one.
-#[derive(Drop)]
+#[derive(Clone, Copy)]
 pub struct Code {
     pub e: u16,
     pub o: u8,
@@ -12,7 +12,7 @@ pub struct Code {
 }
 
 // The registers after a step; where it isn't known, those before it.
-#[derive(Drop)]
+#[derive(Clone, Copy)]
 pub struct Acted {
     pub regs: Regs,
     pub known: bool,

@@ -57,7 +57,7 @@ module _ (limit : ℕ) (s : b.State real) (r : Regs) (c : Control) (mmu : ℕ) (
       record {
         bound = omega (arith, g.bound);
         len = l ∙ g.len;
-        is = g.is ∙ ap (n.later k) e ∙ runs.later-later k j (n.run program (limit - k - j) (state_of q c mmu ds new)) ∙ ap (λ z. n.later (k + j) (n.run program z (state_of q c mmu ds new))) left;
+        is = g.is ∙ ap (n.later k) e ∙ runs.later_later k j (n.run program (limit - k - j) (state_of q c mmu ds new)) ∙ ap (λ z. n.later (k + j) (n.run program z (state_of q c mmu ds new))) left;
       }
     where
       left : limit - k - j ≡ limit - (k + j)
@@ -72,14 +72,14 @@ module _ (limit : ℕ) (s : b.State real) (r : Regs) (c : Control) (mmu : ℕ) (
     pub breaks : (y : Ran) → y ≡ record { machine = record { regs = t.regs; ctl = t.ctl; mmu = t.mmu; ds = es }; event = t.event; steps = k } → v ≡ true → ran_of y new ≡ n.run program limit s
     unfolding after n.step
     breaks y e h2 =
-        rw e (cut t.event (sym ev ∙ h2) ∙ ap (λ (y : b.Answer real). n.later k (n.goOn y.state y.event (n.run program (limit - (k + 1))))) q ∙
+        rw e (cut t.event (sym ev ∙ h2) ∙ ap (λ (y : b.Answer real). n.later k (n.go_on y.state y.event (n.run program (limit - (k + 1))))) q ∙
         sym (runs.opened program limit s k (state_of r c mmu ds w) g.is h))
       where
-        cut : (v : Event) → stops_at v ≡ true → record { state = after; event = event_of v; steps = k } ≡ n.later k (n.goOn after (event_of v) (n.run program (limit - (k + 1))))
+        cut : (v : Event) → stops_at v ≡ true → record { state = after; event = event_of v; steps = k } ≡ n.later k (n.go_on after (event_of v) (n.run program (limit - (k + 1))))
         cut Completed i = unfold stops_at in absurd (not_both (sym i))
-        cut (Violation i a) y = unfold event_of n.goOn n.ended n.later in ap (λ z. record { state = after; event = b.violation i a; steps = z }) (sym (add-zero k))
-        cut (Absent p) y = unfold event_of n.goOn n.ended n.later in ap (λ z. record { state = after; event = b.absent p; steps = z }) (sym (add-zero k))
-        cut (Stopped e) y = unfold event_of n.goOn n.ended n.later in ap (λ z. record { state = after; event = b.other e; steps = z }) (sym (add-zero k))
+        cut (Violation i a) y = unfold event_of n.go_on n.ended n.later in ap (λ z. record { state = after; event = b.violation i a; steps = z }) (sym (add-zero k))
+        cut (Absent p) y = unfold event_of n.go_on n.ended n.later in ap (λ z. record { state = after; event = b.absent p; steps = z }) (sym (add-zero k))
+        cut (Stopped e) y = unfold event_of n.go_on n.ended n.later in ap (λ z. record { state = after; event = b.other e; steps = z }) (sym (add-zero k))
 
     pub goes : v ≡ false → length new ≡ length w → Going limit s t.regs t.ctl t.mmu es new (k + 1)
     goes i l = again limit s r c mmu ds w k g t es new h l q (is_completed t.event (sym ev ∙ i))

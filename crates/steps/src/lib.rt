@@ -1,4 +1,6 @@
 // A run with a budget: a step by its stages, the quick steps that follow it, and again. Descriptors and tables are copied once.
+#![tactic(auto)]
+
 ghost use Rattle.std.specs.Prelude.{◌≡◌};
 ghost use Rattle.board.specs.Run.{run};
 ghost use Rattle.mmu.specs.Translate.{mode_bits};
@@ -14,7 +16,7 @@ use quick::turns::quick;
 use regs::{Control, Machine, Regs};
 
 // The machine after the completed steps, and the event that ended the run.
-#[derive(Drop)]
+#[derive(Clone, Copy)]
 pub struct Ran {
     pub machine: Machine,
     pub event: Event,

@@ -1,0 +1,21 @@
+-- `quick16::on_jump::nop` meets its contract.
+use mathlib.Core.Path.{refl}
+use native.Mathlib.Omega.{arith}
+use borrow.Author.Tests.{eq-eqb}
+use Rattle.plan.specs.Places.{spot_of}
+use Rattle.bus.specs.Access.{count}
+use Rattle.cpu.specs.Program.{ins_of}
+use Rattle.execute.specs.Execute.{execute_by, execute_of}
+use Rattle.jump.specs.Jump.{nop_of}
+use Rattle.served.proofs.Serving.{declines, still}
+use Rattle.quick16.proofs.on_jump.nop.Goals as goal
+
+pub returns-then-not-known : goal.returns-then-not-known
+returns-then-not-known c = declines _ _ _ _ _ _ _ c.none.ensures refl
+
+pub ins0-i-requires : goal.ins0-i-requires
+ins0-i-requires c = c.requires
+
+pub returns : goal.returns
+unfolding ins_of count spot_of execute_of execute_by nop_of
+returns c = still _ _ _ _ _ c.requires 58880 0 _ _ _ _ (eq-eqb _ _ c.if-not-known.false) c.ins0-i.ensures c.with_pc.ensures (λ t i. nop_of t) c.nop-d.ensures c.done.ensures (refl, (refl, (refl, (refl, omega arith)))) refl refl refl

@@ -1,0 +1,27 @@
+-- `quick16::on_load16::ld_da_rr` meets its contract.
+use mathlib.Core.Path.{refl}
+use native.Mathlib.Omega.{arith}
+use borrow.Author.Tests.{eq-eqb}
+use Rattle.plan.specs.Places.{spot_of}
+use Rattle.bus.specs.Access.{count}
+use Rattle.cpu.specs.Program.{ins_of}
+use Rattle.execute.specs.Execute.{execute_by, execute_of}
+use Rattle.load16.specs.Word.{ld_m_rr}
+use Rattle.served.proofs.Serving.{at_direct, declines, moves, no_read}
+use Rattle.quick16.proofs.on_load16.ld_da_rr.Goals as goal
+
+pub returns-then-not-known : goal.returns-then-not-known
+returns-then-not-known c = declines _ _ _ _ _ _ _ c.none.ensures refl
+
+pub ins2-i-requires : goal.ins2-i-requires
+ins2-i-requires c = c.requires
+
+pub put_word-stored-requires : goal.put_word-stored-requires
+put_word-stored-requires c = c.requires.inside
+
+pub returns-then-not-stored : goal.returns-then-not-stored
+returns-then-not-stored c = declines _ _ _ _ _ _ _ c.none-then-not-stored.ensures (c.put_word-stored.ensures.w_unchanged c.if-not-stored.true)
+
+pub returns : goal.returns
+unfolding ins_of count spot_of execute_of execute_by ld_m_rr
+returns c = moves _ _ _ _ _ c.requires 22034 2 _ _ _ _ (eq-eqb _ _ c.if-not-known.false) c.ins2-i.ensures c.with_pc.ensures _ 0 (λ t i s v. ld_m_rr t c.args.u i s) _ (at_direct _ _ c.args.u c.args.r _ c.requires 22034 2 _ (eq-eqb _ _ c.if-not-known.false) c.ins2-i.ensures _ _ _ c.data_at-s.ensures c.low16.ensures) c.ld_m_rr-d.ensures 0 (λ user mmu ds R. no_read _ _ user mmu ds) (c.put_word-stored.ensures.wrote c.if-not-stored.false) c.done.ensures (refl, (refl, (refl, (refl, omega arith)))) refl refl refl

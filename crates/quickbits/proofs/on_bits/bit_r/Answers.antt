@@ -1,0 +1,21 @@
+-- `quickbits::on_bits::bit_r` meets its contract.
+use mathlib.Core.Path.{refl}
+use native.Mathlib.Omega.{arith}
+use borrow.Author.Tests.{eq-eqb}
+use Rattle.plan.specs.Places.{spot_of}
+use Rattle.bus.specs.Access.{count}
+use Rattle.cpu.specs.Program.{ins_of}
+use Rattle.execute.specs.Execute.{execute_by, execute_of}
+use Rattle.bits.specs.Bits.{bit_r}
+use Rattle.served.proofs.Serving.{declines, still}
+use Rattle.quickbits.proofs.on_bits.bit_r.Goals as goal
+
+pub returns-then-not-known : goal.returns-then-not-known
+returns-then-not-known c = declines _ _ _ _ _ _ _ c.none.ensures refl
+
+pub ins0-i-requires : goal.ins0-i-requires
+ins0-i-requires c = c.requires
+
+pub returns : goal.returns
+unfolding ins_of count spot_of execute_of execute_by bit_r
+returns c = still _ _ _ _ _ c.requires 45568 0 _ _ _ _ (eq-eqb _ _ c.if-not-known.false) c.ins0-i.ensures c.with_pc.ensures (λ t i. bit_r t i) c.bit_r-d.ensures c.done.ensures (refl, (refl, (refl, (refl, omega arith)))) refl refl refl

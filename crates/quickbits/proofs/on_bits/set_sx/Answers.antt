@@ -1,0 +1,33 @@
+-- `quickbits::on_bits::set_sx` meets its contract.
+use mathlib.Core.Path.{refl}
+use native.Mathlib.Omega.{arith}
+use borrow.Author.Tests.{eq-eqb}
+use Rattle.plan.specs.Places.{spot_of}
+use Rattle.bus.specs.Access.{count}
+use Rattle.cpu.specs.Program.{ins_of}
+use Rattle.execute.specs.Execute.{execute_by, execute_of}
+use Rattle.bits.specs.Bits.{set_m}
+use Rattle.served.proofs.Serving.{at_index, declines, moves}
+use Rattle.quickbits.proofs.on_bits.set_sx.Goals as goal
+
+pub returns-then-not-known : goal.returns-then-not-known
+returns-then-not-known c = declines _ _ _ _ _ _ _ c.none.ensures refl
+
+pub ins0-i-requires : goal.ins0-i-requires
+ins0-i-requires c = c.requires
+
+pub byte_at-g-requires : goal.byte_at-g-requires
+byte_at-g-requires c = c.requires.inside
+
+pub returns-in_default : goal.returns-in_default
+returns-in_default c = declines _ _ _ _ _ _ _ c.none-in_default.ensures refl
+
+pub put_byte-stored-requires : goal.put_byte-stored-requires
+put_byte-stored-requires c = c.requires.inside
+
+pub returns-then-not-stored : goal.returns-then-not-stored
+returns-then-not-stored c = declines _ _ _ _ _ _ _ c.none-then-not-stored.ensures (c.put_byte-stored.ensures.w_unchanged c.if-not-stored.true)
+
+pub returns : goal.returns
+unfolding ins_of count spot_of execute_of execute_by set_m
+returns c = moves _ _ _ _ _ c.requires 49816 0 _ _ _ _ (eq-eqb _ _ c.if-not-known.false) c.ins0-i.ensures c.with_pc.ensures _ _ (λ t i s v. set_m t i s v) _ (at_index _ _ c.args.u c.args.r _ c.requires 49816 0 _ (eq-eqb _ _ c.if-not-known.false) c.ins0-i.ensures _ _ _ _ _ c.data_at-s.ensures c.displace.ensures c.index.ensures c.low8.ensures) c.set_m-d.ensures 1 (c.byte_at-g.ensures _ c.in-Is.is) (c.put_byte-stored.ensures.wrote c.if-not-stored.false) c.done.ensures (refl, (refl, (refl, (refl, omega arith)))) refl refl refl
