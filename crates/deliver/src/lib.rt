@@ -1,4 +1,6 @@
 // Delivering a trap: a host call.
+#![tactic(auto)]
+
 mod traps;
 
 ghost use Rattle.std.specs.Prelude.{◌≡◌};

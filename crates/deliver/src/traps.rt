@@ -6,7 +6,7 @@ use bus::kinds::Event;
 use plan::kinds::Stop;
 
 // The vector's offset and the carried address; in `Three` a third word to be pushed.
-#[derive(Drop)]
+#[derive(Clone, Copy)]
 pub enum Trap {
     Two(u16, u16),
     Three(u16, u16, u16),

@@ -1,5 +1,7 @@
 // Events by document 01's numbers and values, and the 12 bytes in which a call for C hands one over: number, completed steps, first
 // value, second value, of 2, 2, 4 and 4 bytes, low byte first.
+#![tactic(auto)]
+
 ghost use Rattle.std.specs.Prelude.{◌≡◌, length};
 ghost use Rattle.bus.specs.Leave.{event_of};
 ghost use Rattle.events.specs.Events.{numbers, direction_of, stop_numbers, event_numbers};
@@ -11,7 +13,7 @@ use plan::kinds::Stop;
 pub const BYTES: usize = 12;
 
 // Number, first value, second value.
-#[derive(Drop)]
+#[derive(Clone, Copy)]
 pub struct Numbered {
     pub number: u16,
     pub first: u64,

@@ -1,13 +1,13 @@
 -- Which way each test of the writer and of the reader leads.
 use mathlib.Core.Path.{◌≡◌, ◌∙◌, sym}
-use mathlib.Core.Bool.{Bool, true, false, not}
+use mathlib.Core.Bool.{Bool, true, false}
 use mathlib.Core.List.{List, ◌++◌, append-nil}
-use Prim.Native.Nat.{ℕ, suc, ◌+◌, ◌<◌, ◌≤◌}
+use Prim.Native.Nat.{ℕ, suc, ◌<◌, ◌≤◌}
 use native.Mathlib.Omega.{arith}
 use lib.Dec.{leb, eqb-suc-zero}
 use lib.ListN.{length, replicate, get_or, take, drop, length-drop}
 use lib.Seq.{length-take-le}
-use borrow.Author.Tests.{le-leb, lt-leb, lt-ltb, le-ltb, eq-eqb, ne_eqb, not-true, not-false}
+use borrow.Author.Tests.{le-leb, lt-leb, lt-ltb, le-ltb, eq-eqb, ne_eqb}
 use Rattle.pack.specs.Pack.{pack, unpack, pasted}
 use Rattle.regs.specs.declared.Machine.{Machine}
 use Rattle.legal.specs.Legal.{allowed_bits}
@@ -36,9 +36,9 @@ module _ (m : Machine) (f : ℕ) (out : List ℕ) where
     many_1 h = stays 0 (rw (le-leb 1 f some, lt-leb f 16 h))
 
     module _ (few : f ≤ 16) where
-      pub bits_2 : (t : Bool) → t ≡ allowed_bits m → not t ≡ true → (2 ≡ write_refusal m f (length out)) × (out ≡ written m f out)
+      pub bits_2 : (t : Bool) → t ≡ allowed_bits m → t ≡ false → (2 ≡ write_refusal m f (length out)) × (out ≡ written m f out)
       unfolding write_refusal
-      bits_2 t e h = stays 1 (rw (le-leb 1 f some, le-leb f 16 few, ← e, not-true t h))
+      bits_2 t e h = stays 1 (rw (le-leb 1 f some, le-leb f 16 few, ← e, h))
 
       module _ (allowed : allowed_bits m ≡ true) where
         pub room_3 : length out < 101 → (3 ≡ write_refusal m f (length out)) × (out ≡ written m f out)
@@ -70,18 +70,18 @@ module _ (v : List ℕ) where
       frames_fine : leb (frames_of v) 16 ≡ true
       frames_fine = le-leb (frames_of v) 16 (omega arith)
 
-      pub bits_r2 : (x : Restored) → not t ≡ true → x ≡ refused 2 → x ≡ read_fields v
+      pub bits_r2 : (x : Restored) → t ≡ false → x ≡ refused 2 → x ≡ read_fields v
       unfolding read_fields
-      bits_r2 x h e = rw (eq-eqb (get_or v 0 0) 1 one, frames_fine, ← is, ← test, not-true t h) e
+      bits_r2 x h e = rw (eq-eqb (get_or v 0 0) 1 one, frames_fine, ← is, ← test, h) e
 
-      module _ (fine : not t ≡ false) where
+      module _ (fine : t ≡ true) where
         pub padding_5 : (x : Restored) → (get_or v 55 0 ≡ 0 → ⊥) → x ≡ refused 5 → x ≡ read_fields v
         unfolding read_fields
-        padding_5 x h e = rw (eq-eqb (get_or v 0 0) 1 one, frames_fine, ← is, ← test, not-false t fine, ne_eqb (get_or v 55 0) 0 h) e
+        padding_5 x h e = rw (eq-eqb (get_or v 0 0) 1 one, frames_fine, ← is, ← test, fine, ne_eqb (get_or v 55 0) 0 h) e
 
         pub read_0 : get_or v 55 0 ≡ 0 → record { refusal = 0; machine = m; frames = frames_of v } ≡ read_fields v
         unfolding read_fields restored
-        read_0 h = rw (eq-eqb (get_or v 0 0) 1 one, frames_fine, ← is, ← test, not-false t fine, eq-eqb (get_or v 55 0) 0 h)
+        read_0 h = rw (eq-eqb (get_or v 0 0) 1 one, frames_fine, ← is, ← test, fine, eq-eqb (get_or v 55 0) 0 h)
 
 pub length_3 : (s : List ℕ) → (length s ≡ 101 → ⊥) → read_form s ≡ refused 3
 unfolding read_form

@@ -1,11 +1,13 @@
 // The stored form of the machine: 101 bytes, by one table of fields and widths for writer and reader.
+#![tactic(auto)]
+
 ghost use Rattle.std.specs.Prelude.{◌≡◌, ◌≤◌, length};
 ghost use Rattle.form.specs.Form.{bit_for, first_fields, fields_of, regs_of, control_of, machine_with, machine_of, write_refusal, written, refused, read_fields, read_form};
 
 use regs::{Control, Machine, Regs};
 
 // What the reader answers: 0 or the refusal's number, the machine, and the frames of its memory.
-#[derive(Drop)]
+#[derive(Clone, Copy)]
 pub struct Restored {
     pub refusal: u8,
     pub machine: Machine,

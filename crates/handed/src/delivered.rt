@@ -24,6 +24,7 @@ pub fn long(a: u8, b: u8, c: u8, d: u8) -> u32
     wide(a) + (wide(b) + (wide(c) + wide(d) * 256) * 256) * 256
 }
 
+#[tactic(auto, unfolding(crate::specs::Handed::violation_in))]
 fn violation_in(n: u32, a: u32) -> Event
     ensures { result ≡ violation_in n a }
 {

@@ -1,4 +1,6 @@
 // The event that the 12 bytes of an answer hand to delivery.
+#![tactic(auto)]
+
 mod delivered;
 
 ghost use Rattle.std.specs.Prelude.{◌≡◌, length};

@@ -9,7 +9,6 @@ use lib.ListN.{length}
 use Rattle.board.specs.Program as b
 use Rattle.board.specs.Run as n
 use Rattle.regs.specs.declared.Machine.{Machine}
-use Rattle.bus.specs.declared.kinds.Event.{Event}
 use Rattle.bus.specs.declared.kinds.Event.TheVariants.{Completed}
 use Rattle.bus.specs.Board.{real}
 use Rattle.bus.specs.Leave.{event_of}
@@ -25,8 +24,8 @@ module _ {B : b.Board} (prog : n.Program B) where
   abbrev pub uncounted : n.Ran B → b.Answer B
   uncounted r = record { state = r.state; event = r.event }
 
-  went : (t : b.State B) (e : b.Event B) → uncounted (n.goOn t e (λ u. n.run prog 0 u)) ≡ record { state = t; event = e }
-  unfolding n.goOn n.later n.run n.ended
+  went : (t : b.State B) (e : b.Event B) → uncounted (n.go_on t e (λ u. n.run prog 0 u)) ≡ record { state = t; event = e }
+  unfolding n.go_on n.later n.run n.ended
   went t b.completed = refl
   went t (b.violation i a) = refl
   went t (b.absent p) = refl

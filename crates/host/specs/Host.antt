@@ -1,5 +1,5 @@
 -- The public step and run. Document 01: refusals 1 and 2; refused, event 0, no steps, and the record and every byte as they were.
-use Rattle.std.specs.Prelude.{ℕ, Bool, true, false, cond, List, eqb, length}
+use Rattle.std.specs.Prelude.{ℕ, cond, List, eqb, length}
 use Rattle.board.specs.Program as b
 use Rattle.board.specs.Run as n
 use Rattle.regs.specs.declared.Machine.{Machine}

@@ -1,4 +1,6 @@
 // The public step and run: refusals 1 and 2 in this order, then the defined steps.
+#![tactic(auto)]
+
 ghost use Rattle.std.specs.Prelude.{◌≡◌, length};
 ghost use Rattle.host.specs.Host.{refusal_of, stepped, step_of, ran, run_of};
 
@@ -7,7 +9,7 @@ use regs::Machine;
 use steps::run_steps;
 
 // A step's answer: 0 or the refusal's number, the machine, the event.
-#[derive(Drop)]
+#[derive(Clone, Copy)]
 pub struct Stepped {
     pub refusal: u8,
     pub machine: Machine,
@@ -15,7 +17,7 @@ pub struct Stepped {
 }
 
 // A run's answer: the same, and the steps that completed.
-#[derive(Drop)]
+#[derive(Clone, Copy)]
 pub struct Ran {
     pub refusal: u8,
     pub machine: Machine,

@@ -1,11 +1,11 @@
 -- Words pushed one after another: what is left of a delivery after each, and its ends.
-use Prim.Native.Nat.{ℕ, ◌+◌, ◌/◌, ◌%◌, ◌-◌, ◌<◌, ◌≤◌}
+use Prim.Native.Nat.{ℕ, ◌+◌, ◌/◌, ◌%◌, ◌<◌, ◌≤◌}
 use mathlib.Core.Path.{◌≡◌, refl, sym, ◌∙◌, ap}
-use mathlib.Core.Bool.{true, false}
+use mathlib.Core.Bool.{false}
 use mathlib.Core.List.{List, [], ◌∷◌, ◌++◌}
 use mathlib.Core.Option.{Option, none, some}
 use native.Mathlib.Omega.{arith}
-use borrow.Author.Tests.{ltb-true, ltb-false, lt-ltb, le-ltb}
+use borrow.Author.Tests.{ltb-false, lt-ltb, le-ltb}
 use lib.Dec.{ltb}
 use lib.ListN.{length, get_or, set, length-set}
 use Rattle.regs.specs.declared.Regs.{Regs}
@@ -37,6 +37,11 @@ pair_in (Byte x) (Denied i) p q e = let z : ◌≡◌ {A = ℕ} 0 1 = cc in absu
 pair_in (Byte x) (Lacks i) p q e = let z : ◌≡◌ {A = ℕ} 0 1 = cc in absurd (omega arith)
 pair_in (Denied i) h p q e = let z : ◌≡◌ {A = ℕ} 0 1 = cc in absurd (omega arith)
 pair_in (Lacks i) h p q e = let z : ◌≡◌ {A = ℕ} 0 1 = cc in absurd (omega arith)
+
+-- what the other side of `let Places::Found(..) = t else` knows
+pub else_lost : (t : Places) → ((p q p2 q2 p3 q3 : ℕ) → t ≡ Found p q p2 q2 p3 q3 → ⊥) → t ≡ Lost
+else_lost (Found p q p2 q2 p3 q3) h = absurd (h p q p2 q2 p3 q3 refl)
+else_lost Lost h = refl
 
 module _ (mmu : ℕ) (ds : List ℕ) (n a p q : ℕ) (g : Pair) (e : g ≡ pair_for mmu ds n a) (h : g ≡ At p q) where
   found : (room_for false mmu ds n false a ≡ Byte p) × (room_for false mmu ds n false (next a) ≡ Byte q)
@@ -103,7 +108,7 @@ module _ (m : Machine) (w : List ℕ) where
 
   word_is : (r : Regs) (a v : ℕ) (xs : List b.Write) (es l : List ℕ) →
       b.writes state r (two_writes false a v ++ xs) es l ≡ b.after state (room a) (λ p. b.after state (room (next a)) (λ q. rest r a v xs es l p q))
-  unfolding b.writes b.writeTo b.touch room_for marked_word stored_word state room rest
+  unfolding b.writes b.write_to b.touch room_for marked_word stored_word state room rest
   word_is r a v xs es l = refl
 
   module _ (i : ℕ) where

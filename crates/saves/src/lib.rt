@@ -1,4 +1,6 @@
 // Saving status on the system stack and entering the service routine. All places are found before a byte changes.
+#![tactic(auto)]
+
 mod entering;
 mod places;
 mod pushing;
@@ -14,7 +16,7 @@ use plan::kinds::plus16;
 use regs::Machine;
 
 // 0 or the refusal's number, and the machine.
-#[derive(Drop)]
+#[derive(Clone, Copy)]
 pub struct Delivered {
     pub refusal: u8,
     pub machine: Machine,

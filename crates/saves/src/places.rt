@@ -7,14 +7,14 @@ use bus::read::next_of;
 use bus::store::room_for;
 
 // The physical addresses of the bytes of a word.
-#[derive(Drop)]
+#[derive(Clone, Copy)]
 pub enum Pair {
     At(u64, u64),
     Nowhere,
 }
 
 // .. and of three words.
-#[derive(Drop)]
+#[derive(Clone, Copy)]
 pub enum Places {
     Found(u64, u64, u64, u64, u64, u64),
     Lost,

@@ -5,7 +5,7 @@ ghost use Rattle.saves.specs.Words.{word_of, marking, storing};
 use bus::read::next_of;
 
 // A word to be stored, its logical address, and the physical addresses of its bytes.
-#[derive(Drop)]
+#[derive(Clone, Copy)]
 pub struct Word {
     at: u16,
     low: u64,

@@ -1,11 +1,13 @@
 // Making a page valid: a host call.
+#![tactic(auto)]
+
 ghost use Rattle.std.specs.Prelude.{◌≡◌};
 ghost use Rattle.valid.specs.Valid.{make_valid, unmade};
 
 use regs::Machine;
 
 // 0 or the refusal's number, and the machine.
-#[derive(Drop)]
+#[derive(Clone, Copy)]
 pub struct Made {
     pub refusal: u8,
     pub machine: Machine,

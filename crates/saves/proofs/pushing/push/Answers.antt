@@ -1,0 +1,7 @@
+use mathlib.Core.Path.{refl}
+use Rattle.saves.specs.Words.{marked_word, stored_word}
+use Rattle.saves.proofs.pushing.push.Goals as goal
+
+pub returns : goal.returns
+unfolding marked_word stored_word
+returns c = record { ds_after = simp (← c.mark-2.ensures, ← c.next_of.ensures, ← c.mark.ensures, ← c.mode_bits-bits.ensures.value); w_after = refl }

@@ -1,0 +1,16 @@
+use Rattle.saves.proofs.Stack.{else_lost, refused_2, done_2, fit_2, within_2}
+use Rattle.saves.proofs.two_words.Goals as goal
+
+pub returns-in_default : goal.returns-in_default
+returns-in_default c = refused_2 _ _ _ _ _ _ _ c.plus16-a.ensures c.plus16-b.ensures _ _ c.places_for-t.ensures (else_lost _ c.in_default.not-Found) c.refused.ensures
+
+pub push_two-requires : goal.push_two-requires
+push_two-requires c =
+    let f = fit_2 _ _ _ _ _ _ _ _ _ _ _ _ _ c.places_for-t.ensures c.in-Found.is _ _ _ _ c.word_at-x.ensures c.word_at-y.ensures in
+    record { low_in_bounds = f.0; high_in_bounds = f.1.0; low_in_bounds_2 = f.1.1.0; high_in_bounds_2 = f.1.1.1 }
+
+pub enter-requires : goal.enter-requires
+enter-requires c = within_2 _ _ _ _ _ _ _ _ _ c.push_two.ensures.w_after c.requires
+
+pub returns : goal.returns
+returns c = done_2 _ _ _ _ _ _ _ c.plus16-a.ensures c.plus16-b.ensures _ _ _ _ _ _ _ _ _ _ _ _ c.places_for-t.ensures c.in-Found.is c.word_at-x.ensures c.word_at-y.ensures c.push_two.ensures.ds_after c.push_two.ensures.w_after c.requires c.enter.ensures
