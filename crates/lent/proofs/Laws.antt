@@ -4,7 +4,8 @@ use mathlib.Core.Path.{◌≡◌, refl, sym, ◌∙◌}
 use mathlib.Core.Bool.{Bool, true, false, cond, not, ◌&&◌}
 use mathlib.Core.List.{List, append-nil}
 use native.Mathlib.Omega.{arith}
-use borrow.Author.Tests.{not-true, not-false, eqb-true, eqb-false}
+use borrow.Author.Tests.{eqb-true, eqb-false, ne_eqb, eq-eqb}
+use Rattle.std.specs.Prelude.{◌≢◌}
 use lib.Dec.{eqb, leb}
 use lib.ListN.{length, drop_of_length-le}
 use Rattle.regs.specs.declared.Machine.{Machine}
@@ -30,51 +31,51 @@ passed true false z n h e = absurd (omega (arith, e))
 passed false y z n h e = absurd (eqb-false n 0 h e)
 
 -- a call that goes on was lent 12 bytes
-pub twelve : (a : Restored) (memory bytes k : ℕ) → k ≡ lent_refusal a memory bytes → not (eqb k 0) ≡ false → bytes ≡ 12
+pub twelve : (a : Restored) (memory bytes k : ℕ) → k ≡ lent_refusal a memory bytes → k ≡ 0 → bytes ≡ 12
 unfolding lent_refusal
 twelve a memory bytes k q t =
     eqb-true bytes 12
-    (passed (eqb a.refusal 0) (eqb memory (a.frames * 4096)) (eqb bytes 12) a.refusal refl (sym q ∙ eqb-true k 0 (not-false (eqb k 0) t)))
+    (passed (eqb a.refusal 0) (eqb memory (a.frames * 4096)) (eqb bytes 12) a.refusal refl (sym q ∙ t))
 
 -- ---- delivery
 
 module _ (s w e : List ℕ) (a : Restored) (k : ℕ) (p : a ≡ read_form s) (q : k ≡ lent_refusal a (length w) (length e)) where
-  pub deliver_refused : not (eqb k 0) ≡ true → moved k s w ≡ deliver_form s w e
+  pub deliver_refused : k ≢ 0 → moved k s w ≡ deliver_form s w e
   unfolding deliver_form deliver_read
-  deliver_refused t = rw (← p, ← q, not-true (eqb k 0) t)
+  deliver_refused t = rw (← p, ← q, ne_eqb k 0 t)
 
-  module _ (t : not (eqb k 0) ≡ false) (v : Event) (y : v ≡ event_in e) (r : Delivered) (w' : List ℕ) (x : outcome r w' ≡ deliver_of a.machine w v) where
-    pub undelivered : not (eqb r.refusal 0) ≡ true → moved r.refusal s w' ≡ deliver_form s w e
+  module _ (t : k ≡ 0) (v : Event) (y : v ≡ event_in e) (r : Delivered) (w' : List ℕ) (x : outcome r w' ≡ deliver_of a.machine w v) where
+    pub undelivered : r.refusal ≢ 0 → moved r.refusal s w' ≡ deliver_form s w e
     unfolding deliver_form deliver_read delivered_back
-    undelivered u = rw (← p, ← q, not-false (eqb k 0) t, ← y, ← x, not-true (eqb r.refusal 0) u)
+    undelivered u = rw (← p, ← q, eq-eqb k 0 t, ← y, ← x, ne_eqb r.refusal 0 u)
 
-    pub delivered_on : not (eqb r.refusal 0) ≡ false →
+    pub delivered_on : r.refusal ≡ 0 →
         (j : ℕ) (s' : List ℕ) → (j ≡ write_refusal r.machine a.frames (length s)) × (s' ≡ written r.machine a.frames s) →
         moved 0 s' w' ≡ deliver_form s w e
     unfolding deliver_form deliver_read delivered_back
     delivered_on u j s' f =
-        let z = not-false (eqb r.refusal 0) u in
-        rw (← p, ← q, not-false (eqb k 0) t, ← y, ← x, z, f.1, eqb-true r.refusal 0 z)
+        let z = eq-eqb r.refusal 0 u in
+        rw (← p, ← q, eq-eqb k 0 t, ← y, ← x, z, f.1, u)
 
 -- ---- making valid
 
 module _ (s : List ℕ) (i : ℕ) (a : Restored) (p : a ≡ read_form s) where
-  pub make_refused : not (eqb a.refusal 0) ≡ true → formed a.refusal s ≡ make_form s i
+  pub make_refused : a.refusal ≢ 0 → formed a.refusal s ≡ make_form s i
   unfolding make_form make_read
-  make_refused t = rw (← p, not-true (eqb a.refusal 0) t)
+  make_refused t = rw (← p, ne_eqb a.refusal 0 t)
 
-  module _ (t : not (eqb a.refusal 0) ≡ false) (r : Made) (x : r ≡ make_valid a.machine i) where
-    pub unmade : not (eqb r.refusal 0) ≡ true → formed r.refusal s ≡ make_form s i
+  module _ (t : a.refusal ≡ 0) (r : Made) (x : r ≡ make_valid a.machine i) where
+    pub unmade : r.refusal ≢ 0 → formed r.refusal s ≡ make_form s i
     unfolding make_form make_read made_back
-    unmade u = rw (← p, not-false (eqb a.refusal 0) t, ← x, not-true (eqb r.refusal 0) u)
+    unmade u = rw (← p, eq-eqb a.refusal 0 t, ← x, ne_eqb r.refusal 0 u)
 
-    pub made_on : not (eqb r.refusal 0) ≡ false →
+    pub made_on : r.refusal ≡ 0 →
         (j : ℕ) (s' : List ℕ) → (j ≡ write_refusal r.machine a.frames (length s)) × (s' ≡ written r.machine a.frames s) →
         formed 0 s' ≡ make_form s i
     unfolding make_form make_read made_back
     made_on u j s' f =
-        let z = not-false (eqb r.refusal 0) u in
-        rw (← p, not-false (eqb a.refusal 0) t, ← x, z, f.1, eqb-true r.refusal 0 z)
+        let z = eq-eqb r.refusal 0 u in
+        rw (← p, eq-eqb a.refusal 0 t, ← x, z, f.1, u)
 
 -- ---- reset
 

@@ -1,5 +1,7 @@
 // The calls over a stored form and lent memory that run no instruction, and what every such call refuses its buffers by. Each answers the
 // number of its refusal, 0 for none; a refused call changes no byte.
+#![tactic(auto)]
+
 ghost use Rattle.std.specs.Prelude.{◌≡◌};
 ghost use Rattle.bus.specs.Leave.{event_of};
 ghost use Rattle.lent.specs.Lent.{formed, reset_form, lent_refusal, completed_by, moved, deliver_form, make_form};

@@ -1,6 +1,7 @@
 // The machine's public face for Rattle (that for C is crate `z280`): every public call and type. A call refuses by a number of document
 // 01 (0: none), in the order that is given here; a refused call changes no lent byte and hands the record back as it was, where nothing
 // else is said.
+#![tactic(auto)]
 
 // The machine record: registers, control registers, MMU control, 32 page descriptors.
 pub use regs::Machine;
