@@ -14,7 +14,7 @@ use Rattle.regs.specs.declared.Regs.{Regs}
 use Rattle.regs.specs.declared.Control.{Control}
 use Rattle.regs.specs.declared.Machine.{Machine}
 use Rattle.regs.specs.Change.{load_msr, load_tcr, load_iopage, load_limit, load_vector}
-use Rattle.regs.specs.Select.{low, index_of, put_index}
+use Rattle.regs.specs.Select.{low, index_of}
 use Rattle.plan.specs.declared.kinds.Ins.{Ins}
 use Rattle.plan.specs.declared.kinds.Governed.{Governed}
 use Rattle.plan.specs.Kinds.{word}

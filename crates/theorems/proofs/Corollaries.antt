@@ -1,5 +1,5 @@
 -- Each follows in a few lines.
-use Prim.Native.Nat.{ℕ, ◌+◌, ◌≤◌}
+use Prim.Native.Nat.{ℕ}
 use mathlib.Core.Path.{◌≡◌, refl, sym, ◌∙◌, ap, fun_ext}
 use mathlib.Core.Bool.{Bool, true, false, cond, not}
 use mathlib.Core.List.{List, [], ◌∷◌}
@@ -11,25 +11,24 @@ use lib.ListN.{length, get_or}
 use borrow.Author.Tests.{eqb-true}
 use Rattle.pack.specs.Pack.{unpack}
 use Rattle.mmu.specs.Translate.{valid}
-use Rattle.board.specs.Program.{State, completed}
+use Rattle.board.specs.Program.{State}
 use Rattle.board.specs.Run.{ended}
 use Rattle.regs.specs.declared.Machine.{Machine}
 use Rattle.legal.specs.Legal.{whole_frames, allowed_bits, reset_record}
 use Rattle.bus.specs.declared.kinds.Event.{Event}
 use Rattle.bus.specs.Board.{real}
-use Rattle.cpu.specs.Machine.{machine_state}
 use Rattle.host.specs.Host as host
 use Rattle.host.specs.Host.{machine_in, refusal_of, run_of, step_of}
 use Rattle.valid.specs.Valid.{unmade, made_valid, make_valid}
-use Rattle.saves.specs.Saves.{Outcome, refusal, pushed, all_passed, word_at, entered, vectored, saved}
+use Rattle.saves.specs.Saves.{Outcome, refusal, pushed, all_passed, entered, vectored, saved}
 use Rattle.deliver.specs.declared.traps.Trap.{Trap}
 use Rattle.deliver.specs.declared.traps.Trap.TheVariants.{Two, Three, Undelivered}
 use Rattle.deliver.specs.Deliver.{trap_of, taken, deliver_of}
 use Rattle.form.specs.Form.{widths, machine_of, frames_of, read_fields, read_form, refused, restored}
 use Rattle.theorems.specs.Withhold.{withheld, Withheld, hosted, Alike}
 use Rattle.theorems.specs.Runs.{followed}
-use Rattle.theorems.specs.Corollaries.{SameBytes, Same, Whichever, OnceEach, total, in_pieces, CutAnywhere, NeverTwo}
-use Rattle.theorems.proofs.Allowed.{Fine, allowed_parts, parts_allowed, msr_fine}
+use Rattle.theorems.specs.Corollaries.{SameBytes, Whichever, OnceEach, total, CutAnywhere, NeverTwo}
+use Rattle.theorems.proofs.Allowed.{allowed_parts, parts_allowed, msr_fine}
 use Rattle.theorems.proofs.Works.{passed, run_works, step_works, run_allowed, step_allowed, run_refused, step_refused}
 use Rattle.theorems.proofs.Runs.{demand2}
 use Rattle.theorems.proofs.Withhold.{doesn't_show}

@@ -9,7 +9,6 @@ use native.Mathlib.Omega.{arith}
 use borrow.Author.Tests.{eqb-true, eqb-false, ne_eqb, le-leb}
 use lib.Dec.{eqb, leb}
 use lib.ListN.{length, get_or}
-use Rattle.mmu.specs.Translate.{valid}
 use Rattle.pack.specs.Pack.{unpack, pack}
 use Rattle.regs.specs.declared.Machine.{Machine}
 use Rattle.plan.specs.declared.kinds.Stop.{Stop}

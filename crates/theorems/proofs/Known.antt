@@ -1,32 +1,31 @@
 -- The table of known steps.
 use Prim.Native.Nat.{ℕ, ◌/◌, ◌%◌}
-use mathlib.Core.Path.{◌≡◌, refl, sym, ◌∙◌, ap}
-use mathlib.Core.Bool.{Bool, true, false}
+use mathlib.Core.Path.{◌≡◌, sym, ◌∙◌, ap}
+use mathlib.Core.Bool.{true, false}
 use mathlib.Core.List.{List, [], ◌∷◌}
 use native.Mathlib.Omega.{arith}
-use lib.Dec.{eqb, lit<}
-use lib.ListN.{length, get_or}
+use lib.Dec.{lit<}
+use lib.ListN.{length}
 use borrow.Author.Tests.{eqb-true, eqb-false}
-use Rattle.mmu.specs.Translate.{mode_bits, bit, valid, clear_valid, set_valid, latched}
+use Rattle.mmu.specs.Translate.{mode_bits, bit, clear_valid, latched}
 use Rattle.mmu.proofs.Marks.{valid_clear, set_clear, latched_kept, mode_same}
 use Rattle.mmu.proofs.Known.{p1, p2, p3}
 use Rattle.sums.proofs.Known.{known4, known5, known6, known7, known8}
 use Rattle.logic.proofs.Known.{known9}
 use Rattle.products.proofs.Known.{known10}
-use Rattle.board.specs.Program.{State, Answer, completed, violation, faulted}
+use Rattle.board.specs.Program.{Answer, violation, faulted}
 use Rattle.board.specs.Run.{step}
 use Rattle.regs.specs.declared.Machine.{Machine}
 use Rattle.legal.specs.Legal.{allowed_bits}
 use Rattle.bus.specs.Board.{real}
 use Rattle.cpu.specs.Program.{program}
 use Rattle.cpu.specs.Machine.{machine_state}
-use Rattle.host.specs.Host.{machine_in, refusal_of, StepOutcome, step_of}
+use Rattle.host.specs.Host.{refusal_of, StepOutcome, step_of}
 use Rattle.valid.specs.declared.Made.{Made}
-use Rattle.valid.specs.Valid.{made_valid, make_valid}
 use Rattle.theorems.specs.Withhold.{withheld}
-use Rattle.theorems.specs.Known.{Backed, Pushing, marked_at, first, second, third, Pushed, P11, KnownSteps}
+use Rattle.theorems.specs.Known.{Pushing, marked_at, first, second, third, Pushed, P11, KnownSteps}
 use Rattle.theorems.proofs.Allowed.{latched_allowed, allowed_parts, parts_allowed}
-use Rattle.theorems.proofs.Works.{passed, passes, step_works, step_allowed, made}
+use Rattle.theorems.proofs.Works.{passed, passes, step_works, made}
 use Rattle.theorems.proofs.Push.{lacks_0, lacks_1, completes}
 
 upper : (c : ℕ) → c / 0x8000 ≡ c / 0x4000 / 2

@@ -1,17 +1,17 @@
 -- What no step changes: the valid marks, memory's length, and that no bit is set that may not be.
 use Prim.Native.Nat.{ℕ, zero, suc, ◌%◌}
-use mathlib.Core.Path.{◌≡◌, refl, sym, ◌∙◌, ap}
+use mathlib.Core.Path.{◌≡◌, refl, ◌∙◌}
 use mathlib.Core.Bool.{Bool, true, false, cond}
 use mathlib.Core.List.{List, [], ◌∷◌}
 use lib.Bits.{bit_and}
 use lib.Dec.{eqb, ltb}
 use lib.ListN.{length, get_or, length-set}
-use Rattle.mmu.specs.Translate.{mode_bits, translating, number_of, valid, set_modified, latched, change, marked}
+use Rattle.mmu.specs.Translate.{mode_bits, translating, number_of, valid, set_modified, change, marked}
 use Rattle.mmu.proofs.Marks.{valid_modified, get_or_change}
 use Rattle.board.specs.declared.Got.{Got}
 use Rattle.board.specs.declared.Got.TheVariants.{Byte, Denied, Lacks}
 use Rattle.board.specs.Program.{Prog, read, done, govern, stop, Write, State, Event, completed, violation, absent, other, Answer, in_user, write_to, read_byte, faulted, after, touch, finish, writes, halted, exec}
-use Rattle.board.specs.Run.{Ran, step, ended, later, go_on, run}
+use Rattle.board.specs.Run.{step, ended, later, go_on, run}
 use Rattle.decode.specs.Opening.{opening_of, after_opening, entered}
 use Rattle.decode.specs.Entry.{bytes_in}
 use Rattle.regs.specs.declared.Regs.{Regs}

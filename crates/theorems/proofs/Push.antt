@@ -1,16 +1,15 @@
 -- P11: a user PUSH whose two bytes lie in pages 0 and 1.
 use Prim.Native.Nat.{ℕ, zero, suc, ◌+◌, ◌*◌, ◌/◌, ◌%◌, ◌<◌}
-use mathlib.Core.Path.{◌≡◌, refl, sym, ◌∙◌, ap}
-use mathlib.Core.Bool.{Bool, true, false, cond}
+use mathlib.Core.Path.{◌≡◌, refl, ◌∙◌, ap}
+use mathlib.Core.Bool.{true, false}
 use mathlib.Core.List.{List, [], ◌∷◌}
 use native.Mathlib.Omega.{arith}
-use lib.Dec.{eqb, ltb}
 use lib.ListN.{length, get_or}
-use borrow.Author.Tests.{lt-ltb, eqb-true, eqb-false}
-use Rattle.mmu.specs.Translate.{mode_bits, number_of, index, valid, protected, barred, physical, by_descriptor, placed, translate, latched}
+use borrow.Author.Tests.{lt-ltb}
+use Rattle.mmu.specs.Translate.{mode_bits, number_of, index, valid, barred, physical, by_descriptor, placed, translate}
 use Rattle.board.specs.declared.Got.{Got}
 use Rattle.board.specs.declared.Got.TheVariants.{Byte, Denied}
-use Rattle.board.specs.Program.{Prog, done, violation, State, Answer, through, from_memory, if_room, read_byte, write_to, faulted, after, writes, finish, exec, completed, Write}
+use Rattle.board.specs.Program.{Prog, done, violation, State, through, from_memory, if_room, read_byte, write_to, faulted, after, writes, finish, exec, completed, Write}
 use Rattle.board.specs.Run.{step}
 use Rattle.decode.specs.Opening.{opening_of, entered}
 use Rattle.decode.specs.None.{formats_none}

@@ -1,8 +1,8 @@
 -- Demand 1: the tests of each call, one by one.
-use Prim.Native.Nat.{ℕ, ◌+◌}
+use Prim.Native.Nat.{ℕ}
 use mathlib.Core.Logic.{◌≢◌, ◌↔◌}
 use mathlib.Core.Path.{◌≡◌, refl, sym, ◌∙◌, ap}
-use mathlib.Core.Bool.{Bool, true, false, cond, not, ◌&&◌, ◌||◌}
+use mathlib.Core.Bool.{Bool, true, false, cond, not, ◌||◌}
 use mathlib.Core.List.{List, [], ◌∷◌}
 use mathlib.Core.Option.{Option, none, some}
 use native.Mathlib.Omega.{arith}
@@ -11,7 +11,7 @@ use lib.ListN.{length, get_or}
 use borrow.Author.Tests.{ne_eqb, ltb-true, ltb-false, lt-ltb, le-ltb}
 use Rattle.mmu.specs.Translate.{valid}
 use Rattle.pack.specs.Pack.{unpack}
-use Rattle.board.specs.Program.{State, Answer, completed}
+use Rattle.board.specs.Program.{State, completed}
 use Rattle.board.specs.Run.{ended}
 use Rattle.regs.specs.declared.Machine.{Machine}
 use Rattle.plan.specs.declared.kinds.Stop.TheVariants.{Privileged, Call, Extended, Halted, Break, Port, Nothing}
@@ -22,9 +22,8 @@ use Rattle.bus.specs.Board.{real}
 use Rattle.cpu.specs.Machine.{machine_state}
 use Rattle.host.specs.Host as host
 use Rattle.host.specs.Host.{refusal_of, run_of, step_of}
-use Rattle.valid.specs.declared.Made.{Made}
 use Rattle.valid.specs.Valid.{unmade, made_valid, make_valid}
-use Rattle.saves.specs.Saves.{Outcome, refusal, pushed, all_passed, vector_at, word_at, entered, vectored, saved}
+use Rattle.saves.specs.Saves.{Outcome, refusal, pushed, all_passed, entered, vectored, saved}
 use Rattle.deliver.specs.declared.traps.Trap.{Trap}
 use Rattle.deliver.specs.declared.traps.Trap.TheVariants.{Two, Three, Undelivered}
 use Rattle.deliver.specs.Deliver.{stopped, trap_of, taken, deliver_of}

@@ -1,22 +1,22 @@
 -- Demand 2: one public call after another.
-use Prim.Native.Nat.{ℕ, zero, suc, ◌+◌, ◌<◌, ◌≤◌}
+use Prim.Native.Nat.{ℕ, zero, suc, ◌+◌, ◌<◌}
 use mathlib.Core.Logic.{◌≢◌}
 use mathlib.Core.Path.{◌≡◌, refl, sym, ◌∙◌, ap, fun_ext}
 use mathlib.Core.Bool.{Bool, true, false, cond}
 use mathlib.Core.List.{List}
 use native.Mathlib.Omega.{arith}
 use lib.Dec.{eqb}
-use lib.ListN.{length, get_or}
+use lib.ListN.{length}
 use borrow.Author.Tests.{eqb-true}
-use Rattle.board.specs.Program.{State, Event, completed, violation, absent, other, Answer}
+use Rattle.board.specs.Program.{State, Event, completed, violation, absent, other}
 use Rattle.board.specs.Run.{Ran, step, run, ended, later, go_on, follow}
-use Rattle.board.proofs.Runs.{run_add, run_singly, later_zero}
+use Rattle.board.proofs.Runs.{run_add, run_singly}
 use Rattle.decode.proofs.Table.{entered_at}
 use Rattle.regs.specs.declared.Machine.{Machine}
 use Rattle.bus.specs.Board.{real}
 use Rattle.cpu.specs.Program.{program}
 use Rattle.cpu.specs.Machine.{machine_state}
-use Rattle.host.specs.Host.{machine_in, refusal_of, Outcome, run_of, StepOutcome, step_of}
+use Rattle.host.specs.Host.{machine_in, refusal_of, Outcome, run_of, step_of}
 use Rattle.form.proofs.RoundTrip.{written_reads, read_writes}
 use Rattle.theorems.specs.Runs.{count_of, as_run, joined, onward, followed, stepping, Demand2}
 use Rattle.theorems.proofs.Works.{run_refusal, run_works, step_works, run_allowed, run_refused, step_refused}

@@ -1,16 +1,16 @@
 -- Demand 3 over the public calls: no call of the second run is refused unless the first run is, so its loop is the board's.
-use Prim.Native.Nat.{ℕ, zero, suc, ◌+◌, ◌-◌, ◌≤◌, ◌<◌}
-use mathlib.Core.Path.{◌≡◌, refl, sym, ◌∙◌, ap, subst}
+use Prim.Native.Nat.{ℕ, zero, suc, ◌-◌, ◌<◌}
+use mathlib.Core.Path.{◌≡◌, refl, sym, ◌∙◌, ap}
 use mathlib.Core.Bool.{Bool, true, false, cond, ◌||◌}
 use mathlib.Core.List.{List, [], ◌∷◌}
 use mathlib.Core.Option.{Option, none, some}
 use native.Mathlib.Omega.{arith}
-use lib.Dec.{eqb, ltb}
+use lib.Dec.{eqb}
 use lib.ListN.{length, get_or}
 use borrow.Author.Tests.{eqb-true}
 use Rattle.mmu.specs.Translate.{valid, set_valid, change}
 use Rattle.mmu.proofs.Marks.{valid_clear, get_or_change}
-use Rattle.board.specs.Program.{State, Event, completed, violation, absent, other, Answer}
+use Rattle.board.specs.Program.{State, Event, completed, violation, absent, other}
 use Rattle.board.specs.Run.{Ran, step, run, ended}
 use Rattle.board.specs.Withhold as b
 use Rattle.board.specs.Withhold.{has, without, clear_all, if_has, with_ds, withhold, named, Paged, stopped, counting, resume, paged, hidden, AllValid, Agree, Unseen, Level}
@@ -82,8 +82,8 @@ module _ (k n : ℕ) (w : List ℕ) (q : Ran real) (fine : refusal_of (machine_i
 
   turned : (x : Option ℕ) → named w q.event ≡ x →
       on_fault w o x (λ i. once_made w o (make_valid (machine_in q.state) i) (λ t. hosted k (n - q.steps) (without i w) t q.state.mem)) ≡
-      worked (resume w q x (λ i. paged program k (n - q.steps) (without i w) (b.makeValid i q.state)))
-  unfolding worked over_with on_fault once_made further resume b.makeValid with_ds Bare refusal_of allowed_bits
+      worked (resume w q x (λ i. paged program k (n - q.steps) (without i w) (b.make_valid i q.state)))
+  unfolding worked over_with on_fault once_made further resume b.make_valid with_ds Bare refusal_of allowed_bits
   turned none e = refl
   turned (some i) e =
       let v = bare i (named_has w q.event i e) in
@@ -141,7 +141,7 @@ doesn't_show m mem limit w h k l = go (eqb (refusal_of m (length mem)) 0) refl
 
 on_board : (limit : ℕ) (w : List ℕ) (m : Machine) (mem : List ℕ) {j : ℕ} {v : List ℕ} {t : Machine} {now : List ℕ} → Moment limit w m mem j v t now →
     b.Moment real program limit w (withhold w (machine_state m mem)) j v (machine_state t now)
-unfolding withhold with_ds b.makeValid
+unfolding withhold with_ds b.make_valid
 on_board limit w m mem begun = b.begun
 on_board limit w m mem (stepped {t = t} {now = now} x l r e) =
     let p = step_works t now (sym (step_refusal t now) ∙ r) in
@@ -175,8 +175,8 @@ module _ (limit : ℕ) (w : List ℕ) (m : Machine) (mem : List ℕ) where
       }
 
   on_mark : (j : ℕ) (v : List ℕ) (t : State real) (i a : ℕ) → Public limit w m mem j v t → j < limit → (step program t).event ≡ violation i a → has v i ≡ true →
-      Public limit w m mem j (without i v) (b.makeValid i (step program t).state)
-  unfolding Bare b.makeValid with_ds refusal_of allowed_bits
+      Public limit w m mem j (without i v) (b.make_valid i (step program t).state)
+  unfolding Bare b.make_valid with_ds refusal_of allowed_bits
   on_mark j v t i a x l e h =
       let r = x.called in
       let p = step_works (machine_in t) t.mem r in

@@ -1,6 +1,6 @@
 -- The public calls where they aren't refused, and that what they hand back isn't refused either.
 use Prim.Native.Nat.{ℕ, ◌<◌}
-use mathlib.Core.Path.{◌≡◌, refl, sym, ◌∙◌, ap}
+use mathlib.Core.Path.{◌≡◌, refl, ap}
 use mathlib.Core.Bool.{Bool, true, false, cond}
 use mathlib.Core.List.{List}
 use native.Mathlib.Omega.{arith}
@@ -8,18 +8,18 @@ use lib.Dec.{eqb, ltb}
 use lib.ListN.{length, get_or}
 use borrow.Author.Tests.{lt-ltb}
 use Rattle.mmu.specs.Translate.{valid}
-use Rattle.board.specs.Program.{State, Answer, completed}
-use Rattle.board.specs.Run.{Ran, step, run, ended}
+use Rattle.board.specs.Program.{State, completed}
+use Rattle.board.specs.Run.{step, run, ended}
 use Rattle.regs.specs.declared.Machine.{Machine}
 use Rattle.legal.specs.Legal.{whole_frames, allowed_bits}
 use Rattle.bus.specs.Board.{real}
 use Rattle.cpu.specs.Program.{program}
 use Rattle.cpu.specs.Machine.{machine_state}
-use Rattle.host.specs.Host.{machine_in, refusal_of, Outcome, run_of, StepOutcome, step_of}
+use Rattle.host.specs.Host.{machine_in, refusal_of, run_of, step_of}
 use Rattle.valid.specs.declared.Made.{Made}
 use Rattle.valid.specs.Valid.{unmade, made_valid, make_valid}
 use Rattle.theorems.proofs.Allowed.{allowed_parts, parts_allowed}
-use Rattle.theorems.proofs.Lasting.{Lasting, Lasts, step_lasts, run_lasts}
+use Rattle.theorems.proofs.Lasting.{Lasts, step_lasts, run_lasts}
 
 -- ── refusals 1 and 2 ──
 

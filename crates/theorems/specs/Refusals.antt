@@ -99,7 +99,7 @@ read_tests s =
 -- ── the statement ──
 
 pub record Demand1 : Type 0 where
-  -- what `refusalBy` means
+  -- what `refusal_by` means
   pub exactly : (ts : List Test) (k : ℕ) → (refusal_by ts ≡ k) ↔ Given ts k
   -- refused, step and run give event 0, no steps, the record and every byte as they were
   pub step : (m : Machine) (w : List ℕ) → (step_of m w).refusal ≡ refusal_by (run_tests m w)

@@ -1,7 +1,7 @@
 -- Demand 2, stated: a run of n steps is n steps, or fewer up to the first event other than 0; and what the chain below it rests on.
 use Rattle.std.specs.Prelude.{ℕ, zero, suc, ◌+◌, ◌≤◌, ◌<◌, ◌≢◌, ◌≡◌, true, cond, List, [], ◌++◌, eqb, length, get_or, take, drop}
 use Rattle.board.specs.Program.{State, Event, completed, violation, absent, other}
-use Rattle.board.specs.Run.{Ran, run, ended, later, and_then, singly}
+use Rattle.board.specs.Run.{run, ended, later, and_then, singly}
 use Rattle.decode.specs.Opening.{entered, tabled}
 use Rattle.regs.specs.declared.Machine.{Machine}
 use Rattle.legal.specs.Legal.{allowed_bits}

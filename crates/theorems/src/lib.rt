@@ -1,1 +1,2 @@
 // The demands as theorems: no code, see specs/ and proofs/.
+#![tactic(auto)]
