@@ -1,5 +1,7 @@
 // Runs step and run on cases that give each refusal they can give, in its order, and the known steps of document 01 that are to be run:
 // standard input has them, as `cases::script` reads them. STEP, RUN, DELIVER and VALID are the calls, over BYTES bytes of memory.
+#![tactic(auto)]
+
 use cases::item::Item;
 use cases::{cells, item, machines, script};
 

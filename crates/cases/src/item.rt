@@ -1,5 +1,5 @@
 // An item as far as it has been read: a name, and after a mark a value in hexadecimal capitals.
-#[derive(Drop)]
+#[derive(Clone, Copy)]
 pub struct Item {
     // The name's letters, eight at most, as one number.
     pub name: u64,

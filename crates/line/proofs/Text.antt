@@ -5,8 +5,8 @@ use mathlib.Core.List.{List, [], ◌++◌, append_assoc}
 use native.Mathlib.Omega.{arith}
 use lib.ListN.{length, take, drop, length-append, length-drop}
 use lib.Seq.{take_all, take_at, drop-append-add, drop-drop}
-use Rattle.io.specs.Counts.{IsPrefixLen}
 use Rattle.pack.specs.Pack.{pasted}
+use Rattle.io.specs.Counts.{IsPrefixLen}
 use Rattle.line.specs.Line.{five_digits, zeros_before, decimal, Over}
 
 pub none : (old : List ℕ) → Over [] old 0 old

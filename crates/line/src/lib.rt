@@ -1,4 +1,6 @@
 // What the printing program shows, and its line.
+#![tactic(auto)]
+
 ghost use Rattle.std.specs.Prelude.{◌≡◌, ◌+◌, ◌%◌, ◌≤◌, length};
 ghost use Rattle.io.specs.Counts.{IsPrefixLen};
 ghost use Rattle.pack.specs.Pack.{pasted};
@@ -6,7 +8,7 @@ ghost use Rattle.line.specs.Line.{glyph as Line·glyph, four_hex, five_digits, z
 
 use pack::put_bytes;
 
-#[derive(Drop)]
+#[derive(Clone, Copy)]
 pub enum Shown {
     // The refusal's number.
     Refused(u8),
@@ -15,7 +17,7 @@ pub enum Shown {
 }
 
 // The first n bytes of text; the longest line has 31.
-#[derive(Drop)]
+#[derive(Clone, Copy)]
 pub struct Line {
     pub text: [u8; 32],
     pub n: usize,

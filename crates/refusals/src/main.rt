@@ -1,5 +1,7 @@
 // Runs each public call that runs no instruction on cases that give each refusal it can give, in its order: standard input has them, as
 // `cases::script` reads them. DELIVER, VALID, WRITE and READ are the calls, over BYTES bytes of memory.
+#![tactic(auto)]
+
 use cases::item::Item;
 use cases::{cells, item, machines, script};
 

@@ -1,12 +1,10 @@
 -- A law for each way out of the answer to an input, over plain values.
-use Prim.Native.Nat.{ℕ, ◌+◌, ◌-◌, ◌*◌, ◌<◌, ◌≤◌}
-use mathlib.Core.Path.{◌≡◌, refl, sym, ◌∙◌, ap}
-use mathlib.Core.Bool.{Bool, true, false, not}
-use mathlib.Core.List.{List, [], ◌++◌, append-nil}
+use Prim.Native.Nat.{ℕ, ◌-◌, ◌*◌, ◌<◌, ◌≤◌}
+use mathlib.Core.Path.{◌≡◌}
+use mathlib.Core.List.{List, append-nil}
 use native.Mathlib.Omega.{arith}
-use borrow.Author.Tests.{eq-eqb, ne_eqb, not-true, not-false}
+use borrow.Author.Tests.{eq-eqb, ne_eqb}
 use borrow.Rule.Slice.PartMut.{put_mid, Post-is}
-use lib.Dec.{eqb}
 use lib.ListN.{length, take, drop, length-drop}
 use lib.Seq.{take_all, drop-length}
 use Rattle.regs.specs.declared.Machine.{Machine}
@@ -38,15 +36,15 @@ module _ (s : List ℕ) where
   short_3 h = rw (take_all 101 s (omega arith), length_3 s (λ e. omega (arith, e)))
 
   module _ (r : Restored) (e : r ≡ read_form (take 101 s)) where
-    pub form_refused : not (eqb r.refusal 0) ≡ true → outcome (Refused r.refusal) s ≡ shown_of s
+    pub form_refused : (r.refusal ≡ 0 → ⊥) → outcome (Refused r.refusal) s ≡ shown_of s
     unfolding shown_of answered
-    form_refused h = rw (← e, not-true (eqb r.refusal 0) h)
+    form_refused h = rw (← e, ne_eqb r.refusal 0 h)
 
-    pub form_read : not (eqb r.refusal 0) ≡ false → 101 ≤ length s → (x : Shown) (w : List ℕ) →
+    pub form_read : r.refusal ≡ 0 → 101 ≤ length s → (x : Shown) (w : List ℕ) →
         outcome x w ≡ worked r.machine r.frames (take (length s - 101) (drop 101 s)) →
         outcome x (put_mid 101 (length s - 101) s w) ≡ shown_of s
     unfolding shown_of answered
     form_read h long x w p =
         let k : length (drop 101 s) ≤ length s - 101 = rw length-drop (omega arith) in
         let q = rw (take_all (length s - 101) (drop 101 s) k) at p in
-        rw (← e, not-false (eqb r.refusal 0) h, ← q, Post-is 101 (length s) s long, drop-length s, append-nil w)
+        rw (← e, eq-eqb r.refusal 0 h, ← q, Post-is 101 (length s) s long, drop-length s, append-nil w)

@@ -1,6 +1,6 @@
 -- The first 65,638 bytes of an input decide what is shown; the run of an accepted form with exactly its frames is not refused; each
 -- promise determines its answer and every byte.
-use Prim.Native.Nat.{ℕ, ◌-◌, ◌*◌, ◌<◌, ◌≤◌}
+use Prim.Native.Nat.{ℕ, ◌*◌, ◌<◌, ◌≤◌}
 use mathlib.Core.Path.{◌≡◌, refl, sym, ◌∙◌, ap}
 use mathlib.Core.Bool.{Bool, true, false}
 use mathlib.Core.List.{List}

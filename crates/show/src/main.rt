@@ -1,4 +1,6 @@
 // Reads a stored form and its memory from standard input, runs 1,000 steps and prints one line.
+#![tactic(auto)]
+
 mod answer;
 
 fn main() {

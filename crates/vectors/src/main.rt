@@ -1,6 +1,8 @@
 // Runs the worked example boxes of the manual through the machine. Standard input has a box to a line and says at its head how one is
 // written. Each is run in two trials at once, its open flags clear in one and set in the other. A line is written for each box, with what
 // differs in it, and then a total.
+#![tactic(auto)]
+
 mod after;
 mod before;
 mod trial;
