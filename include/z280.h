@@ -1,4 +1,4 @@
-/* The proved Z280 machine for C: link libz280.a (rt staticlib z280). What each call promises stands in crates/z280/specs/Calls.antt
+/* The proved Z280 machine for C: link libz280.a (tools/make.sh library). What each call promises stands in crates/z280/specs/Calls.antt
    and crates/lent/specs/Lent.antt.
 
    A machine is its stored form, Z280_FORM bytes in the host's own buffer; its memory is lent, exactly the frames of

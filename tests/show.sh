@@ -2,7 +2,7 @@
 # The printing program on inputs of every kind: a line for each case, then a total. Exit status 1 where a case is wrong.
 set -u
 cd "$(dirname "$0")/.."
-[ -x target/bin/show ] || rt check show >&2 || exit 1
+[ -x target/bin/show ] || tools/make.sh show || exit 1
 
 total=0
 wrong=0

@@ -48,9 +48,9 @@ def table(file, name, title):
     rows = formats(file)
     head = "no opening byte" if title == "" else title.strip()
     text = f"""// The entries of the operation codes after {head}.
-ghost use mathlib.Core.Path.{{_≡_}};
-ghost use Rattle·decode·specs.specs.Format.{{entryOf, values}};
-ghost use Rattle·decode·specs.specs.{file}.{{formats{file}}};
+ghost use Rattle.std.specs.Prelude.{{◌≡◌}};
+ghost use Rattle.decode.specs.Format.{{entry_of, values}};
+ghost use Rattle.decode.specs.{file}.{{formats_{name}}};
 
 const {name.upper()}: [u16; 256] = [
 """
@@ -59,7 +59,7 @@ const {name.upper()}: [u16; 256] = [
     text += f"""];
 
 pub fn table() -> [u16; 256]
-    ensures {{ λ r. ⌜ r ≡ values (entryOf formats{file}) 0 256 ⌝ }}
+    ensures {{ result ≡ values (entry_of formats_{name}) 0 256 }}
 {{
     {name.upper()}
 }}
@@ -68,7 +68,7 @@ pub fn table() -> [u16; 256]
 
 
 def constants():
-    lines = [f"pub const {name.upper().replace('-', '_')}: u8 = {number};\n" for name, number in OP.items()]
+    lines = [f"pub const {name.upper()}: u8 = {number};\n" for name, number in OP.items()]
     put("src/op.rt", "// The operations by number, named as in specs/Op.antt.\n" + "\n".join(lines))
 
 

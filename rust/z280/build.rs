@@ -13,7 +13,7 @@ fn main() {
     println!("cargo:rerun-if-changed={}", library.display());
     if !library.is_file() {
         eprintln!("There is no {}.", library.display());
-        eprintln!("Prove and build it at the top of the tree:  rt staticlib z280");
+        eprintln!("Prove and build it at the top of the tree:  tools/make.sh library");
         eprintln!("or name the folder that has libz280.a:       Z280_LIB_DIR=folder cargo build");
         process::exit(1);
     }
