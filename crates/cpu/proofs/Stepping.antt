@@ -55,16 +55,16 @@ module _ (u : Bool) (r : Regs) (c : Control) (mmu : ℕ) (ds w : List ℕ) (eu :
   bytes : (m at : ℕ) (g : Got) → g ≡ got_few 4 m u mmu ds w true at → g ≡ got_many (count m) (user_of c) mmu ds w true at
   bytes m at g h = h ∙ few_is m u mmu ds w true at ∙ ap (λ z. got_many (count m) z mmu ds w true at) eu
 
-  lost_lead : (l : Lead) (t : Turn) → l ≡ lead_of (user_of c) mmu ds w r.pc → LostLead l →
+  lost_lead_lem : (l : Lead) (t : Turn) → l ≡ lead_of (user_of c) mmu ds w r.pc → LostLead l →
       Faulted r c mmu (fault_of l) t → whole t ds w ≡ b.exec (program r c) (state_of r c mmu ds w)
   unfolding fault_of
-  lost_lead (lead.Code o x d at) t e k f = absurd (k o x d at refl)
-  lost_lead (lead.Denied i) t e k f = turn_denied r c mmu ds w (lead.Denied i) i t e refl f
-  lost_lead (lead.Lacks p) t e k f = turn_lacks r c mmu ds w (lead.Lacks p) p t e refl f
+  lost_lead_lem (lead.Code o x d at) t e k f = absurd (k o x d at refl)
+  lost_lead_lem (lead.Denied i) t e k f = turn_denied r c mmu ds w (lead.Denied i) i t e refl f
+  lost_lead_lem (lead.Lacks p) t e k f = turn_lacks r c mmu ds w (lead.Lacks p) p t e refl f
 
   pub at_lead : (l : Lead) (g : Got) (t : Turn) → l ≡ lead_of u mmu ds w r.pc → LostLead l → g ≡ fault_of l →
       Faulted r c mmu g t → whole t ds w ≡ b.exec (program r c) (state_of r c mmu ds w)
-  at_lead l g t e k h f = lost_lead l t (e ∙ ap (λ z. lead_of z mmu ds w r.pc) eu) k (λ es n. f es n ∙ ap (λ z. denial (state_of r c mmu es n) z) h)
+  at_lead l g t e k h f = lost_lead_lem l t (e ∙ ap (λ z. lead_of z mmu ds w r.pc) eu) k (λ es n. f es n ∙ ap (λ z. denial (state_of r c mmu es n) z) h)
 
   module _ (l : Lead) (o x d at e : ℕ) (le : l ≡ lead_of u mmu ds w r.pc) (lc : l ≡ lead.Code o x d at) (ee : e ≡ entered o x) where
     to_form : (y : b.Answer real) → y ≡ b.exec (formed r c o x d at) S → y ≡ b.exec (program r c) S

@@ -1,9 +1,10 @@
 -- A law for each way out of the public step and run, over plain values.
 use Prim.Native.Nat.{ℕ}
 use mathlib.Core.Path.{◌≡◌, refl, ap}
+use Rattle.std.proofs.Common.{◌≢◌}
 use mathlib.Core.Bool.{true, false, not}
 use mathlib.Core.List.{List}
-use borrow.Author.Tests.{not-true, not-false, eqb-true}
+use borrow.Author.Tests.{eq-eqb, ne_eqb}
 use lib.Dec.{eqb}
 use lib.ListN.{length}
 use Rattle.board.specs.Program as b
@@ -36,28 +37,26 @@ module _ {B : b.Board} (prog : n.Program B) where
   run_one s = went (n.step prog s).state (n.step prog s).event
 
 module _ (m : Machine) (w : List ℕ) where
-  pub refused_run : (budget k : ℕ) → k ≡ refusal_of m (length w) → not (eqb k 0) ≡ true →
+  pub refused_run : (budget k : ℕ) → k ≡ refusal_of m (length w) → k ≢ 0 →
       ran (record { refusal = k; machine = m; event = Completed; steps = 0 }) w ≡ run_of m w budget
   unfolding run_of event_of n.ended
-  refused_run budget k e h = rw (← e, not-true (eqb k 0) h)
+  refused_run budget k e h = rw (← e, ne_eqb k 0 h)
 
-  pub ran_on : (budget k : ℕ) (a : code.Ran) (new : List ℕ) → k ≡ refusal_of m (length w) → not (eqb k 0) ≡ false →
+  pub ran_on : (budget k : ℕ) (a : code.Ran) (new : List ℕ) → k ≡ refusal_of m (length w) → k ≡ 0 →
       ran_of a new ≡ n.run program budget (machine_state m w) →
       ran (record { refusal = 0; machine = a.machine; event = a.event; steps = a.steps }) new ≡ run_of m w budget
   unfolding run_of
   ran_on budget k a new e h p =
-      let z : eqb k 0 ≡ true = not-false (eqb k 0) h in
-      rw (← e, z, ← p, eqb-true k 0 z)
+      rw (← e, eq-eqb k 0 h, ← p, h)
 
-  pub refused_step : (k : ℕ) → k ≡ refusal_of m (length w) → not (eqb k 0) ≡ true →
+  pub refused_step : (k : ℕ) → k ≡ refusal_of m (length w) → k ≢ 0 →
       stepped (record { refusal = k; machine = m; event = Completed }) w ≡ step_of m w
   unfolding step_of event_of
-  refused_step k e h = rw (← e, not-true (eqb k 0) h)
+  refused_step k e h = rw (← e, ne_eqb k 0 h)
 
-  pub step_on : (k : ℕ) (a : code.Ran) (new : List ℕ) → k ≡ refusal_of m (length w) → not (eqb k 0) ≡ false →
+  pub step_on : (k : ℕ) (a : code.Ran) (new : List ℕ) → k ≡ refusal_of m (length w) → k ≡ 0 →
       ran_of a new ≡ n.run program 1 (machine_state m w) →
       stepped (record { refusal = 0; machine = a.machine; event = a.event }) new ≡ step_of m w
   unfolding step_of
   step_on k a new e h p =
-      let z : eqb k 0 ≡ true = not-false (eqb k 0) h in
-      rw (← e, z, ← run_one program (machine_state m w), eqb-true k 0 z) (ap (λ (x : n.Ran real). record { refusal = 0; answer = uncounted program x }) p)
+      rw (← e, eq-eqb k 0 h, ← run_one program (machine_state m w), h) (ap (λ (x : n.Ran real). record { refusal = 0; answer = uncounted program x }) p)

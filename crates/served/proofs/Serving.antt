@@ -3,7 +3,6 @@ use Prim.Native.Nat.{ℕ, ◌%◌, ◌≤◌}
 use mathlib.Core.Path.{◌≡◌, refl, sym, ◌∙◌, ap}
 use mathlib.Core.Bool.{Bool, true, false, cond}
 use mathlib.Core.List.{List}
-use borrow.Author.Tests.{eqb-true}
 use lib.Dec.{eqb, ltb}
 use Rattle.board.specs.Program as b
 use Rattle.board.specs.declared.Got.TheVariants.{Byte}
@@ -74,12 +73,12 @@ module _ (keeps w l : List ℕ) (u : Bool) (r : Regs) (q : Code) (F : Fetched ke
   abbrev Known : Type 0
   Known = (ltb E 2048 ≡ false) × ((ltb (op_in E) 24 ≡ false) × ((bytes_in E ≡ k) × ((count k ≡ k) × (k ≤ 4))))
 
-  serves : (D : Done) → eqb q.e E ≡ true → Known → Operand → D ≡ execute_of (with_pc I.next r) u I S (v % 4294967296) →
+  serves : (D : Done) → q.e ≡ E → Known → Operand → D ≡ execute_of (with_pc I.next r) u I S (v % 4294967296) →
       ((mmu : ℕ) (ds : List ℕ) → Right keeps u mmu ds → Wrote u mmu (listed D.write) (Byte 0) ds w ds l) → Serves keeps u r q w l D.regs
   unfolding early ins_of b.after b.finish event_of
   serves D te (h2, (h24, (hk, (hc, hl)))) hr hd hw c mmu ds eu R =
       form_on r c mmu ds w q.o q.b (before q w) q.at E k (behind k w q.p) (got_many k u mmu ds w true q.at) I A
-      (sym (eqb-true q.e E te) ∙ F.entry) h2 (sym hk) (ap (λ z. got_many k z mmu ds w true q.at) eu ∙ ap (λ z. got_many z (user_of c) mmu ds w true q.at) (sym hc)) (behind_is keeps w q F k hl u mmu ds R) refl
+      (sym te ∙ F.entry) h2 (sym hk) (ap (λ z. got_many k z mmu ds w true q.at) eu ∙ ap (λ z. got_many z (user_of c) mmu ds w true q.at) (sym hc)) (behind_is keeps w q F k hl u mmu ds R) refl
       (judge_on r c mmu ds w I On u S A (rw h24) refl eu refl
       (operate_on r c mmu ds w I S v (got_many (count S.n) u mmu ds w S.program S.a) A (ap (λ z. got_many (count S.n) z mmu ds w S.program S.a) eu) (hr mmu ds R)
       (work_done r c mmu ds w I S (v % 4294967296) (with_pc I.next r) u D A refl h24 eu hd ((hw mmu ds R).ends r D.regs c (sym eu)))))
@@ -87,15 +86,15 @@ module _ (keeps w l : List ℕ) (u : Bool) (r : Regs) (q : Code) (F : Fetched ke
       A : b.Answer real
       A = whole (completed_turn D.regs c mmu) ds l
 
-  ie : (i : Ins) → eqb q.e E ≡ true → i ≡ ins_at k r q w → i ≡ ins E k r q w
-  ie i te ei = ei ∙ ap (λ e. ins_of r q.o q.b (before q w) e q.at (behind k w q.p)) (eqb-true q.e E te)
+  ie : (i : Ins) → q.e ≡ E → i ≡ ins_at k r q w → i ≡ ins E k r q w
+  ie i te ei = ei ∙ ap (λ e. ins_of r q.o q.b (before q w) e q.at (behind k w q.p)) te
 
 -- what is known of a quick instruction by its entry E alone: it is built, it ends in no event, and k bytes stand behind its code
 abbrev pub Quick : (E k : ℕ) → Type 0
 Quick E k = (ltb E 2048 ≡ false) × ((ltb (op_in E) 24 ≡ false) × ((bytes_in E ≡ k) × ((count k ≡ k) × (k ≤ 4))))
 
-module _ (keeps w : List ℕ) (u : Bool) (r : Regs) (q : Code) (F : Fetched keeps w q) (E k : ℕ) (i : Ins) (t : Regs) (D : Done) (x : Acted) (te : eqb q.e E ≡ true) (ei : i ≡ ins_at k r q w) (et : t ≡ with_pc i.next r) where
-  Q : eqb q.e E ≡ true → i ≡ ins E k r q w
+module _ (keeps w : List ℕ) (u : Bool) (r : Regs) (q : Code) (F : Fetched keeps w q) (E k : ℕ) (i : Ins) (t : Regs) (D : Done) (x : Acted) (te : q.e ≡ E) (ei : i ≡ ins_at k r q w) (et : t ≡ with_pc i.next r) where
+  Q : q.e ≡ E → i ≡ ins E k r q w
   Q te = ie keeps w w u r q F E k 0 i te ei
 
   module _ (f : Regs → Ins → Done) (ed : D ≡ f t i) where
@@ -155,7 +154,7 @@ return_still r u i v = go (met r i)
 pub at_sp : (u : Bool) (r : Regs) (n a : ℕ) (s : Spot) → s ≡ data_at n a → a ≡ sp_of u r → s ≡ data_at n (sp_of u r)
 at_sp u r n a s e h = e ∙ ap (λ z. data_at n z) h
 
-module _ (keeps w : List ℕ) (u : Bool) (r : Regs) (q : Code) (F : Fetched keeps w q) (E k : ℕ) (i : Ins) (te : eqb q.e E ≡ true) (ei : i ≡ ins_at k r q w) where
+module _ (keeps w : List ℕ) (u : Bool) (r : Regs) (q : Code) (F : Fetched keeps w q) (E k : ℕ) (i : Ins) (te : q.e ≡ E) (ei : i ≡ ins_at k r q w) where
   pub at_direct : (n a : ℕ) (s : Spot) → s ≡ data_at n a → a ≡ word i.arg → s ≡ data_at n (word (ins E k r q w).arg)
   at_direct n a s e h = e ∙ ap (λ z. data_at n z) (h ∙ ap (λ (z : Ins). word z.arg) (ie keeps w w u r q F E k 0 i te ei))
 

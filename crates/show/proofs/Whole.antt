@@ -69,8 +69,8 @@ shown_once s x y u v p q =
     let e : outcome x u ≡ outcome y v = p ∙ sym q in
     (ap (λ (o : Outcome). o.shown) e, ap (λ (o : Outcome). o.bytes) e)
 
-line_of : (a b : List ℕ) (j k : ℕ) → a ≡ b → j ≡ k → ◌≡◌ {A = Line} (record { text = a; n = j }) (record { text = b; n = k })
-line_of a b j k e h = rw (e, h)
+line_of_lem : (a b : List ℕ) (j k : ℕ) → a ≡ b → j ≡ k → ◌≡◌ {A = Line} (record { text = a; n = j }) (record { text = b; n = k })
+line_of_lem a b j k e h = rw (e, h)
 
 pub line_once : (t : List ℕ) (x y : Line) → Spells x t → Spells y t → x ≡ y
-line_once t x y p q = line_of x.text y.text x.n y.n (p.spelt ∙ sym q.spelt) (p.long ∙ sym q.long)
+line_once t x y p q = line_of_lem x.text y.text x.n y.n (p.spelt ∙ sym q.spelt) (p.long ∙ sym q.long)

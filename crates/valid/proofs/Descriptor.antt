@@ -16,5 +16,5 @@ module _ (n : ℕ) (ds : List ℕ) (h : ltb n 32 ≡ true) where
   pub is_valid : (x : Bool) → x ≡ valid (get_or ds (n % 32) 0) → x ≡ valid (get_or ds n 0)
   is_valid x e = e ∙ ap (λ (i : ℕ). valid (get_or ds i 0)) itself
 
-  pub made_valid : (es : List ℕ) → es ≡ change set_valid (n % 32) ds → es ≡ change set_valid n ds
-  made_valid es e = e ∙ ap (λ (i : ℕ). change set_valid i ds) itself
+  pub made_valid_lem : (es : List ℕ) → es ≡ change set_valid (n % 32) ds → es ≡ change set_valid n ds
+  made_valid_lem es e = e ∙ ap (λ (i : ℕ). change set_valid i ds) itself

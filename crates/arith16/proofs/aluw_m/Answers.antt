@@ -1,6 +1,5 @@
 -- `arith16::aluw_m` meets its contract.
-use Rattle.arith16.specs.Arith16.{aluw_m}
-use Rattle.arith16.specs.Arith16.{aluw_on}
+use Rattle.arith16.specs.Arith16.{aluw_m, aluw_on}
 use Rattle.arith16.proofs.aluw_m.Goals as goal
 
 pub returns : goal.returns

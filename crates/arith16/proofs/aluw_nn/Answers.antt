@@ -1,6 +1,5 @@
 -- `arith16::aluw_nn` meets its contract.
-use Rattle.arith16.specs.Arith16.{aluw_nn}
-use Rattle.arith16.specs.Arith16.{aluw_on}
+use Rattle.arith16.specs.Arith16.{aluw_nn, aluw_on}
 use Rattle.arith16.proofs.aluw_nn.Goals as goal
 
 pub returns : goal.returns

@@ -1,6 +1,5 @@
 -- `arith16::aluw_rr` meets its contract.
-use Rattle.arith16.specs.Arith16.{aluw_rr}
-use Rattle.arith16.specs.Arith16.{aluw_on}
+use Rattle.arith16.specs.Arith16.{aluw_rr, aluw_on}
 use Rattle.arith16.proofs.aluw_rr.Goals as goal
 
 pub returns : goal.returns

@@ -1,6 +1,5 @@
 -- `arith8::alu_m` meets its contract.
-use Rattle.arith8.specs.Arith8.{alu_m}
-use Rattle.arith8.specs.Arith8.{alu_on}
+use Rattle.arith8.specs.Arith8.{alu_m, alu_on}
 use Rattle.arith8.proofs.alu_m.Goals as goal
 
 pub returns : goal.returns

@@ -1,6 +1,5 @@
 -- `arith8::alu_n` meets its contract.
-use Rattle.arith8.specs.Arith8.{alu_n}
-use Rattle.arith8.specs.Arith8.{alu_on}
+use Rattle.arith8.specs.Arith8.{alu_n, alu_on}
 use Rattle.arith8.proofs.alu_n.Goals as goal
 
 pub returns : goal.returns

@@ -1,6 +1,5 @@
 -- `arith8::alu_r` meets its contract.
-use Rattle.arith8.specs.Arith8.{alu_r}
-use Rattle.arith8.specs.Arith8.{alu_on}
+use Rattle.arith8.specs.Arith8.{alu_r, alu_on}
 use Rattle.arith8.proofs.alu_r.Goals as goal
 
 pub returns : goal.returns

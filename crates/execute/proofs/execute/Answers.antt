@@ -1,6 +1,5 @@
 -- `execute::execute` meets its contract.
-use borrow.Author.Tests.{le-ltb}
-use borrow.Author.Tests.{lt-ltb}
+use borrow.Author.Tests.{le-ltb, lt-ltb}
 use Rattle.execute.specs.Tried.{tried_of}
 use Rattle.execute.proofs.execute.Goals as goal
 

@@ -1,6 +1,5 @@
 -- `execute::swap` meets its contract.
-use Rattle.execute.specs.Execute.{execute_of}
-use Rattle.execute.specs.Execute.{execute_by}
+use Rattle.execute.specs.Execute.{execute_of, execute_by}
 use Rattle.execute.proofs.Swaps.{no_swap, jaf_is, jar_is}
 use Rattle.load16.specs.Exchange.{ex_af, exx_of}
 use Rattle.execute.proofs.swap.Goals as goal
@@ -20,4 +19,4 @@ pub returns-in-105 : goal.returns-in-105
 returns-in-105 c = λ e u s v. jar_is _ _ _ _ _ _ _ c.regs_of-in-105.ensures c.in-105.is c.jar.ensures
 
 pub returns-in_default : goal.returns-in_default
-returns-in_default c = λ e u s v. absurd (no_swap _ (c.in_default.in_default-own.rest.0.0.0.1) (c.in_default.in_default-own.rest.0.0.1) (c.in_default.in_default-own.rest.0.1) (c.in_default.in_default-own.rest.1) e)
+returns-in_default c = λ e u s v. absurd (no_swap _ c.in_default.in_default-own.rest.0.0.0.1 c.in_default.in_default-own.rest.0.0.1 c.in_default.in_default-own.rest.0.1 c.in_default.in_default-own.rest.1 e)

@@ -1,6 +1,5 @@
 -- `govern::govern` meets its contract.
-use borrow.Author.Tests.{le-ltb}
-use borrow.Author.Tests.{lt-ltb}
+use borrow.Author.Tests.{le-ltb, lt-ltb}
 use Rattle.govern.specs.Govern.{govern_of}
 use Rattle.govern.proofs.govern.Goals as goal
 

@@ -1,11 +1,8 @@
-use Rattle.std.proofs.Common.{ap, not}
-use borrow.Author.Tests.{eq-eqb, ne_eqb}
-use Rattle.host.proofs.Laws.{step_on}
-use Rattle.host.proofs.Laws.{refused_step}
+use Rattle.host.proofs.Laws.{step_on, refused_step}
 use Rattle.host.proofs.step.Goals as goal
 
 pub returns-then-refused : goal.returns-then-refused
-returns-then-refused c = refused_step _ _ _ c.refusal_of-k.ensures (ap not (ne_eqb _ _ c.if-refused.true))
+returns-then-refused c = refused_step _ _ _ c.refusal_of-k.ensures c.if-refused.true
 
 pub returns : goal.returns
-returns c = step_on _ _ _ _ _ c.refusal_of-k.ensures (ap not (eq-eqb _ _ c.if-refused.false)) c.run_steps-a.ensures
+returns c = step_on _ _ _ _ _ c.refusal_of-k.ensures c.if-refused.false c.run_steps-a.ensures

@@ -1,5 +1,4 @@
-use borrow.Author.Tests.{ne_eqb}
-use borrow.Author.Tests.{eq-eqb}
+use borrow.Author.Tests.{ne_eqb, eq-eqb}
 use Rattle.lent.proofs.Laws.{other_length, reset_on}
 use Rattle.lent.proofs.reset.Goals as goal
 

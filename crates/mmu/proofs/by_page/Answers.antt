@@ -1,6 +1,5 @@
 -- `mmu::by_page` meets its contract.
-use Rattle.mmu.specs.Translate.{by_descriptor}
-use Rattle.mmu.specs.Translate.{index}
+use Rattle.mmu.specs.Translate.{by_descriptor, index}
 use Rattle.mmu.proofs.by_page.Goals as goal
 
 pub returns : goal.returns

@@ -1,7 +1,6 @@
 -- `mmu::translate` meets its contract.
 use borrow.Author.Tests.{ne_eqb}
-use Rattle.mmu.specs.Translate.{placed}
-use Rattle.mmu.specs.Translate.{number_of}
+use Rattle.mmu.specs.Translate.{placed, number_of}
 use Rattle.mmu.proofs.translate.Goals as goal
 
 pub returns-then-apart : goal.returns-then-apart

@@ -7,10 +7,10 @@ use Rattle.quickfetch.proofs.Fetching.{reach, at_third, unknown}
 use Rattle.quickfetch.proofs.third.Goals as goal
 
 pub overflow_add-p : goal.overflow_add-p
-overflow_add-p c = omega (arith, reach _ _ _ _ (c.requires.site) 3 (omega arith))
+overflow_add-p c = omega (arith, reach _ _ _ _ c.requires.site 3 (omega arith))
 
 pub bounds-w-p : goal.bounds-w-p
-bounds-w-p c = reach _ _ _ _ (c.requires.site) 3 (omega arith)
+bounds-w-p c = reach _ _ _ _ c.requires.site 3 (omega arith)
 
 pub fourth-requires : goal.fourth-requires
 fourth-requires c =
@@ -24,7 +24,7 @@ fourth-requires c =
     }
 
 pub returns-then-large : goal.returns-then-large
-returns-then-large c = at_third _ _ _ _ (c.requires.site) _ _ _ _ (c.after_opening-n.ensures) ((lt-ltb _ _ c.if-large.true)) (c.fourth.ensures)
+returns-then-large c = at_third _ _ _ _ c.requires.site _ _ _ _ c.after_opening-n.ensures (lt-ltb _ _ c.if-large.true) c.fourth.ensures
 
 pub returns : goal.returns
-returns c = unknown _ _ _ _ (c.none.ensures)
+returns c = unknown _ _ _ _ c.none.ensures

@@ -1,6 +1,5 @@
-use borrow.Author.Tests.{le-ltb}
-use borrow.Author.Tests.{lt-ltb}
-use Rattle.valid.proofs.Descriptor.{is_valid, made_valid}
+use borrow.Author.Tests.{le-ltb, lt-ltb}
+use Rattle.valid.proofs.Descriptor.{is_valid, made_valid_lem}
 use Rattle.valid.specs.Valid.{make_valid}
 use Rattle.valid.proofs.make_valid.Goals as goal
 
@@ -10,7 +9,7 @@ returns-then-already c = simp (← c.not_made.ensures, c.if-already.true, ← is
 
 pub returns-else-already : goal.returns-else-already
 unfolding make_valid
-returns-else-already c = simp (← made_valid c.args.n c.args.m.ds (lt-ltb _ _ c.if-known.true) _ c.make_valid.ensures, c.if-already.false, ← is_valid c.args.n c.args.m.ds (lt-ltb _ _ c.if-known.true) _ c.is_valid-already.ensures, (lt-ltb _ _ c.if-known.true), c.if-allowed.true, ← c.allowed-allowed.ensures)
+returns-else-already c = simp (← made_valid_lem c.args.n c.args.m.ds (lt-ltb _ _ c.if-known.true) _ c.make_valid.ensures, c.if-already.false, ← is_valid c.args.n c.args.m.ds (lt-ltb _ _ c.if-known.true) _ c.is_valid-already.ensures, (lt-ltb _ _ c.if-known.true), c.if-allowed.true, ← c.allowed-allowed.ensures)
 
 pub returns-else-known : goal.returns-else-known
 unfolding make_valid

@@ -1,6 +1,5 @@
 -- `bus::read::few1` meets its contract.
-use borrow.Author.Tests.{ne_eqb}
-use borrow.Author.Tests.{eq-eqb}
+use borrow.Author.Tests.{ne_eqb, eq-eqb}
 use Rattle.bus.proofs.Reading.{few_none, few_lost, few_one}
 use Rattle.bus.proofs.read.few1.Goals as goal
 

@@ -1,8 +1,6 @@
 -- `bus::read::few3` meets its contract.
-use borrow.Author.Tests.{ne_eqb}
-use borrow.Author.Tests.{eq-eqb}
-use Rattle.bus.proofs.Reading.{few_none, few_lost, few_rest_lost, few_all}
-use Rattle.bus.proofs.Reading.{some}
+use borrow.Author.Tests.{ne_eqb, eq-eqb}
+use Rattle.bus.proofs.Reading.{few_none, few_lost, few_rest_lost, few_all, some}
 use Rattle.bus.proofs.read.few3.Goals as goal
 
 pub returns-then-none : goal.returns-then-none

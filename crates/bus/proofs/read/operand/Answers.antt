@@ -1,7 +1,5 @@
 -- `bus::read::operand` meets its contract.
-use borrow.Author.Tests.{le-ltb}
-use borrow.Author.Tests.{ne_eqb}
-use borrow.Author.Tests.{eq-eqb}
+use borrow.Author.Tests.{le-ltb, ne_eqb, eq-eqb}
 use Rattle.bus.proofs.Reading.{operand_none, operand_lost, operand_one, operand_rest_lost, operand_two}
 use Rattle.bus.proofs.read.operand.Goals as goal
 

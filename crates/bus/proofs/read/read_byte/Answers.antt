@@ -1,6 +1,5 @@
 -- `bus::read::read_byte` meets its contract.
-use borrow.Author.Tests.{le-ltb}
-use borrow.Author.Tests.{lt-ltb}
+use borrow.Author.Tests.{le-ltb, lt-ltb}
 use Rattle.bus.specs.Access.{read_from}
 use Rattle.bus.specs.Board.{load_at}
 use Rattle.board.specs.Program.{through, from_memory}

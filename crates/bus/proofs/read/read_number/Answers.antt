@@ -1,7 +1,5 @@
 -- `bus::read::read_number` meets its contract.
-use Rattle.bus.specs.Access.{count}
-use Rattle.bus.specs.Access.{got_many}
-use Rattle.bus.specs.Access.{counts}
+use Rattle.bus.specs.Access.{count, got_many, counts}
 use Rattle.sums.proofs.Past.{past}
 use lib.ListN.{get_or-eq_default}
 use Rattle.bus.proofs.read.read_number.Goals as goal

@@ -1,6 +1,5 @@
 -- `bus::store::room_for` meets its contract.
-use borrow.Author.Tests.{le-ltb}
-use borrow.Author.Tests.{lt-ltb}
+use borrow.Author.Tests.{le-ltb, lt-ltb}
 use Rattle.bus.specs.Access.{room_for}
 use Rattle.board.specs.Program.{through, if_room}
 use Rattle.mmu.specs.Translate.{translate}

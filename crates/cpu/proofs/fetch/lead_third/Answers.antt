@@ -1,6 +1,5 @@
 -- `cpu::fetch::lead_third` meets its contract.
-use borrow.Author.Tests.{le-ltb}
-use borrow.Author.Tests.{lt-ltb}
+use borrow.Author.Tests.{le-ltb, lt-ltb}
 use Rattle.cpu.proofs.Leads.{third_lost, third_more, third_on}
 use Rattle.cpu.proofs.fetch.lead_third.Goals as goal
 

@@ -1,6 +1,5 @@
 -- `cpu::fetch::lost_lead` meets its contract.
-use Rattle.cpu.specs.Lead.{lost_lead}
-use Rattle.cpu.specs.Lead.{lead_by}
+use Rattle.cpu.specs.Lead.{lost_lead, lead_by}
 use Rattle.cpu.proofs.fetch.lost_lead.Goals as goal
 
 pub returns-in-Byte : goal.returns-in-Byte

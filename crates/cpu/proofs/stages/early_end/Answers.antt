@@ -1,5 +1,4 @@
-use borrow.Author.Tests.{le-ltb}
-use borrow.Author.Tests.{lt-ltb}
+use borrow.Author.Tests.{le-ltb, lt-ltb}
 use Rattle.cpu.specs.Program.{early}
 use Rattle.cpu.proofs.stages.early_end.Goals as goal
 

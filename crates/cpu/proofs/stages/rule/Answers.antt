@@ -1,5 +1,4 @@
-use Rattle.cpu.proofs.Ways.{rule_on}
-use Rattle.cpu.proofs.Ways.{rule_user}
+use Rattle.cpu.proofs.Ways.{rule_on, rule_user}
 use Rattle.cpu.proofs.stages.rule.Goals as goal
 
 pub returns-then-user : goal.returns-then-user

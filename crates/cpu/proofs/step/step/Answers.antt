@@ -1,6 +1,5 @@
 -- `cpu::step::step` meets its contract.
-use borrow.Author.Tests.{le-ltb}
-use borrow.Author.Tests.{lt-ltb}
+use borrow.Author.Tests.{le-ltb, lt-ltb}
 use Rattle.cpu.proofs.Stepping.{at_lead, at_missing, at_args, at_judge}
 use Rattle.cpu.proofs.step.step.Goals as goal
 

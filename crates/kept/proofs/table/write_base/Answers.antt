@@ -1,7 +1,6 @@
 -- `kept::table::write_base` meets its contract.
-use borrow.Author.Tests.{ne_eqb}
+use borrow.Author.Tests.{ne_eqb, eqb-true}
 use mathlib.Core.Path.{sym, ◌∙◌}
-use borrow.Author.Tests.{eqb-true}
 use Rattle.kept.proofs.Kept.{not_both}
 use Rattle.kept.proofs.table.write_base.Goals as goal
 

@@ -1,7 +1,5 @@
 -- `plan::early::event_of` meets its contract.
-use borrow.Author.Tests.{le-ltb}
-use borrow.Author.Tests.{lt-ltb}
-use borrow.Author.Tests.{ne_eqb}
+use borrow.Author.Tests.{le-ltb, lt-ltb, ne_eqb}
 use Rattle.plan.specs.Early.{event}
 use Rattle.plan.proofs.early.event_of.Goals as goal
 

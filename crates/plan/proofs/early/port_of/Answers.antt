@@ -1,6 +1,5 @@
 -- `plan::early::port_of` meets its contract.
-use borrow.Author.Tests.{le-ltb}
-use borrow.Author.Tests.{lt-ltb}
+use borrow.Author.Tests.{le-ltb, lt-ltb}
 use Rattle.plan.specs.Early.{port_of}
 use Rattle.plan.proofs.early.port_of.Goals as goal
 

@@ -1,13 +1,11 @@
 -- `quick16::on_arith16::add_xx_rr` meets its contract.
 use mathlib.Core.Path.{refl}
 use native.Mathlib.Omega.{arith}
-use borrow.Author.Tests.{eq-eqb}
 use Rattle.plan.specs.Places.{spot_of}
 use Rattle.bus.specs.Access.{count}
 use Rattle.cpu.specs.Program.{ins_of}
 use Rattle.execute.specs.Execute.{execute_by, execute_of}
-use Rattle.arith16.specs.Arith16.{add_xx_rr}
-use Rattle.arith16.specs.Arith16.{put_xx}
+use Rattle.arith16.specs.Arith16.{add_xx_rr, put_xx}
 use Rattle.served.proofs.Serving.{declines, still}
 use Rattle.quick16.proofs.on_arith16.add_xx_rr.Goals as goal
 
@@ -19,4 +17,4 @@ ins0-i-requires c = c.requires
 
 pub returns : goal.returns
 unfolding ins_of count spot_of execute_of execute_by add_xx_rr put_xx
-returns c = still _ _ _ _ _ c.requires 37888 0 _ _ _ _ (eq-eqb _ _ c.if-not-known.false) c.ins0-i.ensures c.with_pc.ensures (λ t i. add_xx_rr t c.args.u i) c.add_xx_rr-d.ensures c.done.ensures (refl, (refl, (refl, (refl, omega arith)))) refl refl refl
+returns c = still _ _ _ _ _ c.requires 37888 0 _ _ _ _ c.if-not-known.false c.ins0-i.ensures c.with_pc.ensures (λ t i. add_xx_rr t c.args.u i) c.add_xx_rr-d.ensures c.done.ensures (refl, (refl, (refl, (refl, omega arith)))) refl refl refl

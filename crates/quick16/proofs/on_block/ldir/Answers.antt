@@ -1,7 +1,6 @@
 -- `quick16::on_block::ldir` meets its contract.
 use mathlib.Core.Path.{refl}
 use native.Mathlib.Omega.{arith}
-use borrow.Author.Tests.{eq-eqb}
 use Rattle.plan.specs.Places.{spot_of}
 use Rattle.bus.specs.Access.{count}
 use Rattle.cpu.specs.Program.{ins_of}
@@ -30,4 +29,4 @@ returns-then-not-stored c = declines _ _ _ _ _ _ _ c.none-then-not-stored.ensure
 
 pub returns : goal.returns
 unfolding ins_of count spot_of execute_of execute_by ldir
-returns c = moves _ _ _ _ _ c.requires 30344 0 _ _ _ _ (eq-eqb _ _ c.if-not-known.false) c.ins0-i.ensures c.with_pc.ensures _ _ (λ t i s v. ldir t i v) _ c.data_at-s.ensures c.ldir-d.ensures 1 (c.byte_at-g.ensures _ c.in-Is.is) (c.put_byte-stored.ensures.wrote c.if-not-stored.false) c.done.ensures (refl, (refl, (refl, (refl, omega arith)))) refl refl refl
+returns c = moves _ _ _ _ _ c.requires 30344 0 _ _ _ _ c.if-not-known.false c.ins0-i.ensures c.with_pc.ensures _ _ (λ t i s v. ldir t i v) _ c.data_at-s.ensures c.ldir-d.ensures 1 (c.byte_at-g.ensures _ c.in-Is.is) (c.put_byte-stored.ensures.wrote c.if-not-stored.false) c.done.ensures (refl, (refl, (refl, (refl, omega arith)))) refl refl refl

@@ -1,7 +1,6 @@
 -- `quick16::on_jump::jp` meets its contract.
 use mathlib.Core.Path.{refl}
 use native.Mathlib.Omega.{arith}
-use borrow.Author.Tests.{eq-eqb}
 use Rattle.plan.specs.Places.{spot_of}
 use Rattle.bus.specs.Access.{count}
 use Rattle.cpu.specs.Program.{ins_of}
@@ -18,4 +17,4 @@ ins2-i-requires c = c.requires
 
 pub returns : goal.returns
 unfolding ins_of count spot_of execute_of execute_by jp_of
-returns c = moves _ _ _ _ _ c.requires 54290 2 _ _ _ _ (eq-eqb _ _ c.if-not-known.false) c.ins2-i.ensures c.with_pc.ensures _ 0 (λ t i s v. jp_of t s) _ (at_direct _ _ c.args.u c.args.r _ c.requires 54290 2 _ (eq-eqb _ _ c.if-not-known.false) c.ins2-i.ensures _ _ _ c.data_at-s.ensures c.low16.ensures) c.jp-d.ensures 0 (λ user mmu ds R. no_read _ _ user mmu ds) (λ user mmu ds R. no_write _ _ _ c.jp-d.ensures refl user mmu ds) c.done.ensures (refl, (refl, (refl, (refl, omega arith)))) refl refl refl
+returns c = moves _ _ _ _ _ c.requires 54290 2 _ _ _ _ c.if-not-known.false c.ins2-i.ensures c.with_pc.ensures _ 0 (λ t i s v. jp_of t s) _ (at_direct _ _ c.args.u c.args.r _ c.requires 54290 2 _ c.if-not-known.false c.ins2-i.ensures _ _ _ c.data_at-s.ensures c.low16.ensures) c.jp-d.ensures 0 (λ user mmu ds R. no_read _ _ user mmu ds) (λ user mmu ds R. no_write _ _ _ c.jp-d.ensures refl user mmu ds) c.done.ensures (refl, (refl, (refl, (refl, omega arith)))) refl refl refl

@@ -1,7 +1,6 @@
 -- `quick16::on_jump::jp_xx` meets its contract.
 use mathlib.Core.Path.{refl}
 use native.Mathlib.Omega.{arith}
-use borrow.Author.Tests.{eq-eqb}
 use Rattle.plan.specs.Places.{spot_of}
 use Rattle.bus.specs.Access.{count}
 use Rattle.cpu.specs.Program.{ins_of}
@@ -18,4 +17,4 @@ ins0-i-requires c = c.requires
 
 pub returns : goal.returns
 unfolding ins_of count spot_of execute_of execute_by jp_xx
-returns c = still _ _ _ _ _ c.requires 55296 0 _ _ _ _ (eq-eqb _ _ c.if-not-known.false) c.ins0-i.ensures c.with_pc.ensures (λ t i. jp_xx t i) c.jp_xx-d.ensures c.done.ensures (refl, (refl, (refl, (refl, omega arith)))) refl refl refl
+returns c = still _ _ _ _ _ c.requires 55296 0 _ _ _ _ c.if-not-known.false c.ins0-i.ensures c.with_pc.ensures (λ t i. jp_xx t i) c.jp_xx-d.ensures c.done.ensures (refl, (refl, (refl, (refl, omega arith)))) refl refl refl

@@ -1,7 +1,6 @@
 -- `quick16::on_jump::jr` meets its contract.
 use mathlib.Core.Path.{refl}
 use native.Mathlib.Omega.{arith}
-use borrow.Author.Tests.{eq-eqb}
 use Rattle.plan.specs.Places.{spot_of}
 use Rattle.bus.specs.Access.{count}
 use Rattle.cpu.specs.Program.{ins_of}
@@ -18,4 +17,4 @@ ins1-i-requires c = c.requires
 
 pub returns : goal.returns
 unfolding ins_of count spot_of execute_of execute_by jr_of
-returns c = still _ _ _ _ _ c.requires 55809 1 _ _ _ _ (eq-eqb _ _ c.if-not-known.false) c.ins1-i.ensures c.with_pc.ensures (λ t i. jr_of t i) c.jr-d.ensures c.done.ensures (refl, (refl, (refl, (refl, omega arith)))) refl refl refl
+returns c = still _ _ _ _ _ c.requires 55809 1 _ _ _ _ c.if-not-known.false c.ins1-i.ensures c.with_pc.ensures (λ t i. jr_of t i) c.jr-d.ensures c.done.ensures (refl, (refl, (refl, (refl, omega arith)))) refl refl refl

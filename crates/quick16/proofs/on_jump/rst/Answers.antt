@@ -1,7 +1,6 @@
 -- `quick16::on_jump::rst` meets its contract.
 use mathlib.Core.Path.{refl}
 use native.Mathlib.Omega.{arith}
-use borrow.Author.Tests.{eq-eqb}
 use Rattle.plan.specs.Places.{spot_of}
 use Rattle.bus.specs.Access.{count}
 use Rattle.cpu.specs.Program.{ins_of}
@@ -24,4 +23,4 @@ returns-then-not-stored c = declines _ _ _ _ _ _ _ c.none-then-not-stored.ensure
 
 pub returns : goal.returns
 unfolding ins_of count spot_of execute_of execute_by rst_of
-returns c = moves _ _ _ _ _ c.requires 57856 0 _ _ _ _ (eq-eqb _ _ c.if-not-known.false) c.ins0-i.ensures c.with_pc.ensures _ 0 (λ t i s v. rst_of t c.args.u i) _ refl c.rst-d.ensures 0 (λ user mmu ds R. no_read _ _ user mmu ds) (c.put_word-stored.ensures.wrote c.if-not-stored.false) c.done.ensures (refl, (refl, (refl, (refl, omega arith)))) refl refl refl
+returns c = moves _ _ _ _ _ c.requires 57856 0 _ _ _ _ c.if-not-known.false c.ins0-i.ensures c.with_pc.ensures _ 0 (λ t i s v. rst_of t c.args.u i) _ refl c.rst-d.ensures 0 (λ user mmu ds R. no_read _ _ user mmu ds) (c.put_word-stored.ensures.wrote c.if-not-stored.false) c.done.ensures (refl, (refl, (refl, (refl, omega arith)))) refl refl refl

@@ -1,7 +1,6 @@
 -- `quick16::on_load16::ex_sp` meets its contract.
 use mathlib.Core.Path.{refl}
 use native.Mathlib.Omega.{arith}
-use borrow.Author.Tests.{eq-eqb}
 use Rattle.plan.specs.Places.{spot_of}
 use Rattle.bus.specs.Access.{count}
 use Rattle.cpu.specs.Program.{ins_of}
@@ -30,4 +29,4 @@ returns-then-not-stored c = declines _ _ _ _ _ _ _ c.none-then-not-stored.ensure
 
 pub returns : goal.returns
 unfolding ins_of count spot_of execute_of execute_by ex_sp
-returns c = moves _ _ _ _ _ c.requires 18800 0 _ _ _ _ (eq-eqb _ _ c.if-not-known.false) c.ins0-i.ensures c.with_pc.ensures _ _ (λ t i s v. ex_sp t i s v) _ (at_sp _ _ _ _ _ c.data_at-s.ensures c.sp.ensures) c.ex_sp-d.ensures 2 (c.word_at-g.ensures _ c.in-Is.is) (c.put_word-stored.ensures.wrote c.if-not-stored.false) c.done.ensures (refl, (refl, (refl, (refl, omega arith)))) refl refl refl
+returns c = moves _ _ _ _ _ c.requires 18800 0 _ _ _ _ c.if-not-known.false c.ins0-i.ensures c.with_pc.ensures _ _ (λ t i s v. ex_sp t i s v) _ (at_sp _ _ _ _ _ c.data_at-s.ensures c.sp.ensures) c.ex_sp-d.ensures 2 (c.word_at-g.ensures _ c.in-Is.is) (c.put_word-stored.ensures.wrote c.if-not-stored.false) c.done.ensures (refl, (refl, (refl, (refl, omega arith)))) refl refl refl

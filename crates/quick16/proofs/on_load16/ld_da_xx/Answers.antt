@@ -1,7 +1,6 @@
 -- `quick16::on_load16::ld_da_xx` meets its contract.
 use mathlib.Core.Path.{refl}
 use native.Mathlib.Omega.{arith}
-use borrow.Author.Tests.{eq-eqb}
 use Rattle.plan.specs.Places.{spot_of}
 use Rattle.bus.specs.Access.{count}
 use Rattle.cpu.specs.Program.{ins_of}
@@ -24,4 +23,4 @@ returns-then-not-stored c = declines _ _ _ _ _ _ _ c.none-then-not-stored.ensure
 
 pub returns : goal.returns
 unfolding ins_of count spot_of execute_of execute_by ld_m_xx
-returns c = moves _ _ _ _ _ c.requires 20498 2 _ _ _ _ (eq-eqb _ _ c.if-not-known.false) c.ins2-i.ensures c.with_pc.ensures _ 0 (λ t i s v. ld_m_xx t i s) _ (at_direct _ _ c.args.u c.args.r _ c.requires 20498 2 _ (eq-eqb _ _ c.if-not-known.false) c.ins2-i.ensures _ _ _ c.data_at-s.ensures c.low16.ensures) c.ld_m_xx-d.ensures 0 (λ user mmu ds R. no_read _ _ user mmu ds) (c.put_word-stored.ensures.wrote c.if-not-stored.false) c.done.ensures (refl, (refl, (refl, (refl, omega arith)))) refl refl refl
+returns c = moves _ _ _ _ _ c.requires 20498 2 _ _ _ _ c.if-not-known.false c.ins2-i.ensures c.with_pc.ensures _ 0 (λ t i s v. ld_m_xx t i s) _ (at_direct _ _ c.args.u c.args.r _ c.requires 20498 2 _ c.if-not-known.false c.ins2-i.ensures _ _ _ c.data_at-s.ensures c.low16.ensures) c.ld_m_xx-d.ensures 0 (λ user mmu ds R. no_read _ _ user mmu ds) (c.put_word-stored.ensures.wrote c.if-not-stored.false) c.done.ensures (refl, (refl, (refl, (refl, omega arith)))) refl refl refl

@@ -1,7 +1,6 @@
 -- `quick16::on_load16::pop_rr` meets its contract.
 use mathlib.Core.Path.{refl}
 use native.Mathlib.Omega.{arith}
-use borrow.Author.Tests.{eq-eqb}
 use Rattle.plan.specs.Places.{spot_of}
 use Rattle.bus.specs.Access.{count}
 use Rattle.cpu.specs.Program.{ins_of}
@@ -24,4 +23,4 @@ returns-in_default c = declines _ _ _ _ _ _ _ c.none-in_default.ensures refl
 
 pub returns : goal.returns
 unfolding ins_of count spot_of execute_of execute_by pop_rr
-returns c = moves _ _ _ _ _ c.requires 24432 0 _ _ _ _ (eq-eqb _ _ c.if-not-known.false) c.ins0-i.ensures c.with_pc.ensures _ _ (λ t i s v. pop_rr t c.args.u i v) _ (at_sp _ _ _ _ _ c.data_at-s.ensures c.sp.ensures) c.pop_rr-d.ensures 2 (c.word_at-g.ensures _ c.in-Is.is) (λ user mmu ds R. no_write _ _ _ c.pop_rr-d.ensures refl user mmu ds) c.done.ensures (refl, (refl, (refl, (refl, omega arith)))) refl refl refl
+returns c = moves _ _ _ _ _ c.requires 24432 0 _ _ _ _ c.if-not-known.false c.ins0-i.ensures c.with_pc.ensures _ _ (λ t i s v. pop_rr t c.args.u i v) _ (at_sp _ _ _ _ _ c.data_at-s.ensures c.sp.ensures) c.pop_rr-d.ensures 2 (c.word_at-g.ensures _ c.in-Is.is) (λ user mmu ds R. no_write _ _ _ c.pop_rr-d.ensures refl user mmu ds) c.done.ensures (refl, (refl, (refl, (refl, omega arith)))) refl refl refl

@@ -1,13 +1,11 @@
 -- `quick8::on_arith8::alu_n` meets its contract.
 use mathlib.Core.Path.{refl}
 use native.Mathlib.Omega.{arith}
-use borrow.Author.Tests.{eq-eqb}
 use Rattle.plan.specs.Places.{spot_of}
 use Rattle.bus.specs.Access.{count}
 use Rattle.cpu.specs.Program.{ins_of}
 use Rattle.execute.specs.Execute.{execute_by, execute_of}
-use Rattle.arith8.specs.Arith8.{alu_n}
-use Rattle.arith8.specs.Arith8.{alu_on}
+use Rattle.arith8.specs.Arith8.{alu_n, alu_on}
 use Rattle.served.proofs.Serving.{declines, still}
 use Rattle.quick8.proofs.on_arith8.alu_n.Goals as goal
 
@@ -19,4 +17,4 @@ ins1-i-requires c = c.requires
 
 pub returns : goal.returns
 unfolding ins_of count spot_of execute_of execute_by alu_n alu_on
-returns c = still _ _ _ _ _ c.requires 31233 1 _ _ _ _ (eq-eqb _ _ c.if-not-known.false) c.ins1-i.ensures c.with_pc.ensures (λ t i. alu_n t i) c.alu_n-d.ensures c.done.ensures (refl, (refl, (refl, (refl, omega arith)))) refl refl refl
+returns c = still _ _ _ _ _ c.requires 31233 1 _ _ _ _ c.if-not-known.false c.ins1-i.ensures c.with_pc.ensures (λ t i. alu_n t i) c.alu_n-d.ensures c.done.ensures (refl, (refl, (refl, (refl, omega arith)))) refl refl refl

@@ -1,7 +1,6 @@
 -- `quick8::on_arith8::dec_r` meets its contract.
 use mathlib.Core.Path.{refl}
 use native.Mathlib.Omega.{arith}
-use borrow.Author.Tests.{eq-eqb}
 use Rattle.plan.specs.Places.{spot_of}
 use Rattle.bus.specs.Access.{count}
 use Rattle.cpu.specs.Program.{ins_of}
@@ -19,4 +18,4 @@ ins0-i-requires c = c.requires
 
 pub returns : goal.returns
 unfolding ins_of count spot_of execute_of execute_by dec_r into_r
-returns c = still _ _ _ _ _ c.requires 32768 0 _ _ _ _ (eq-eqb _ _ c.if-not-known.false) c.ins0-i.ensures c.with_pc.ensures (λ t i. dec_r t i) c.dec_r-d.ensures c.done.ensures (refl, (refl, (refl, (refl, omega arith)))) refl refl refl
+returns c = still _ _ _ _ _ c.requires 32768 0 _ _ _ _ c.if-not-known.false c.ins0-i.ensures c.with_pc.ensures (λ t i. dec_r t i) c.dec_r-d.ensures c.done.ensures (refl, (refl, (refl, (refl, omega arith)))) refl refl refl

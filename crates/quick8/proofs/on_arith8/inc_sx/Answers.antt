@@ -1,7 +1,6 @@
 -- `quick8::on_arith8::inc_sx` meets its contract.
 use mathlib.Core.Path.{refl}
 use native.Mathlib.Omega.{arith}
-use borrow.Author.Tests.{eq-eqb}
 use Rattle.plan.specs.Places.{spot_of}
 use Rattle.bus.specs.Access.{count}
 use Rattle.cpu.specs.Program.{ins_of}
@@ -30,4 +29,4 @@ returns-then-not-stored c = declines _ _ _ _ _ _ _ c.none-then-not-stored.ensure
 
 pub returns : goal.returns
 unfolding ins_of count spot_of execute_of execute_by inc_m
-returns c = moves _ _ _ _ _ c.requires 34969 1 _ _ _ _ (eq-eqb _ _ c.if-not-known.false) c.ins1-i.ensures c.with_pc.ensures _ _ (λ t i s v. inc_m t s v) _ (at_index _ _ c.args.u c.args.r _ c.requires 34969 1 _ (eq-eqb _ _ c.if-not-known.false) c.ins1-i.ensures _ _ _ _ _ c.data_at-s.ensures c.displace.ensures c.index.ensures c.low8.ensures) c.inc_m-d.ensures 1 (c.byte_at-g.ensures _ c.in-Is.is) (c.put_byte-stored.ensures.wrote c.if-not-stored.false) c.done.ensures (refl, (refl, (refl, (refl, omega arith)))) refl refl refl
+returns c = moves _ _ _ _ _ c.requires 34969 1 _ _ _ _ c.if-not-known.false c.ins1-i.ensures c.with_pc.ensures _ _ (λ t i s v. inc_m t s v) _ (at_index _ _ c.args.u c.args.r _ c.requires 34969 1 _ c.if-not-known.false c.ins1-i.ensures _ _ _ _ _ c.data_at-s.ensures c.displace.ensures c.index.ensures c.low8.ensures) c.inc_m-d.ensures 1 (c.byte_at-g.ensures _ c.in-Is.is) (c.put_byte-stored.ensures.wrote c.if-not-stored.false) c.done.ensures (refl, (refl, (refl, (refl, omega arith)))) refl refl refl

@@ -1,7 +1,6 @@
 -- `quick8::on_arith8::neg_a` meets its contract.
 use mathlib.Core.Path.{refl}
 use native.Mathlib.Omega.{arith}
-use borrow.Author.Tests.{eq-eqb}
 use Rattle.plan.specs.Places.{spot_of}
 use Rattle.bus.specs.Access.{count}
 use Rattle.cpu.specs.Program.{ins_of}
@@ -18,4 +17,4 @@ ins0-i-requires c = c.requires
 
 pub returns : goal.returns
 unfolding ins_of count spot_of execute_of execute_by neg_a
-returns c = still _ _ _ _ _ c.requires 36864 0 _ _ _ _ (eq-eqb _ _ c.if-not-known.false) c.ins0-i.ensures c.with_pc.ensures (λ t i. neg_a t) c.neg_a-d.ensures c.done.ensures (refl, (refl, (refl, (refl, omega arith)))) refl refl refl
+returns c = still _ _ _ _ _ c.requires 36864 0 _ _ _ _ c.if-not-known.false c.ins0-i.ensures c.with_pc.ensures (λ t i. neg_a t) c.neg_a-d.ensures c.done.ensures (refl, (refl, (refl, (refl, omega arith)))) refl refl refl

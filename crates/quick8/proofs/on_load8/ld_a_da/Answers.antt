@@ -1,7 +1,6 @@
 -- `quick8::on_load8::ld_a_da` meets its contract.
 use mathlib.Core.Path.{refl}
 use native.Mathlib.Omega.{arith}
-use borrow.Author.Tests.{eq-eqb}
 use Rattle.plan.specs.Places.{spot_of}
 use Rattle.bus.specs.Access.{count}
 use Rattle.cpu.specs.Program.{ins_of}
@@ -24,4 +23,4 @@ returns-in_default c = declines _ _ _ _ _ _ _ c.none-in_default.ensures refl
 
 pub returns : goal.returns
 unfolding ins_of count spot_of execute_of execute_by ld_a_m
-returns c = moves _ _ _ _ _ c.requires 13970 2 _ _ _ _ (eq-eqb _ _ c.if-not-known.false) c.ins2-i.ensures c.with_pc.ensures _ _ (λ t i s v. ld_a_m t v) _ (at_direct _ _ c.args.u c.args.r _ c.requires 13970 2 _ (eq-eqb _ _ c.if-not-known.false) c.ins2-i.ensures _ _ _ c.data_at-s.ensures c.low16.ensures) c.ld_a_m-d.ensures 1 (c.byte_at-g.ensures _ c.in-Is.is) (λ user mmu ds R. no_write _ _ _ c.ld_a_m-d.ensures refl user mmu ds) c.done.ensures (refl, (refl, (refl, (refl, omega arith)))) refl refl refl
+returns c = moves _ _ _ _ _ c.requires 13970 2 _ _ _ _ c.if-not-known.false c.ins2-i.ensures c.with_pc.ensures _ _ (λ t i s v. ld_a_m t v) _ (at_direct _ _ c.args.u c.args.r _ c.requires 13970 2 _ c.if-not-known.false c.ins2-i.ensures _ _ _ c.data_at-s.ensures c.low16.ensures) c.ld_a_m-d.ensures 1 (c.byte_at-g.ensures _ c.in-Is.is) (λ user mmu ds R. no_write _ _ _ c.ld_a_m-d.ensures refl user mmu ds) c.done.ensures (refl, (refl, (refl, (refl, omega arith)))) refl refl refl

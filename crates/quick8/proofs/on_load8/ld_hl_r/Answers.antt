@@ -1,7 +1,6 @@
 -- `quick8::on_load8::ld_hl_r` meets its contract.
 use mathlib.Core.Path.{refl}
 use native.Mathlib.Omega.{arith}
-use borrow.Author.Tests.{eq-eqb}
 use Rattle.plan.specs.Places.{spot_of}
 use Rattle.bus.specs.Access.{count}
 use Rattle.cpu.specs.Program.{ins_of}
@@ -24,4 +23,4 @@ returns-then-not-stored c = declines _ _ _ _ _ _ _ c.none-then-not-stored.ensure
 
 pub returns : goal.returns
 unfolding ins_of count spot_of execute_of execute_by ld_m_r
-returns c = moves _ _ _ _ _ c.requires 16904 0 _ _ _ _ (eq-eqb _ _ c.if-not-known.false) c.ins0-i.ensures c.with_pc.ensures _ 0 (λ t i s v. ld_m_r t i s) _ c.data_at-s.ensures c.ld_m_r-d.ensures 0 (λ user mmu ds R. no_read _ _ user mmu ds) (c.put_byte-stored.ensures.wrote c.if-not-stored.false) c.done.ensures (refl, (refl, (refl, (refl, omega arith)))) refl refl refl
+returns c = moves _ _ _ _ _ c.requires 16904 0 _ _ _ _ c.if-not-known.false c.ins0-i.ensures c.with_pc.ensures _ 0 (λ t i s v. ld_m_r t i s) _ c.data_at-s.ensures c.ld_m_r-d.ensures 0 (λ user mmu ds R. no_read _ _ user mmu ds) (c.put_byte-stored.ensures.wrote c.if-not-stored.false) c.done.ensures (refl, (refl, (refl, (refl, omega arith)))) refl refl refl

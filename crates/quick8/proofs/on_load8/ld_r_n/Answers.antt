@@ -1,7 +1,6 @@
 -- `quick8::on_load8::ld_r_n` meets its contract.
 use mathlib.Core.Path.{refl}
 use native.Mathlib.Omega.{arith}
-use borrow.Author.Tests.{eq-eqb}
 use Rattle.plan.specs.Places.{spot_of}
 use Rattle.bus.specs.Access.{count}
 use Rattle.cpu.specs.Program.{ins_of}
@@ -18,4 +17,4 @@ ins1-i-requires c = c.requires
 
 pub returns : goal.returns
 unfolding ins_of count spot_of execute_of execute_by ld_r_n
-returns c = still _ _ _ _ _ c.requires 14849 1 _ _ _ _ (eq-eqb _ _ c.if-not-known.false) c.ins1-i.ensures c.with_pc.ensures (λ t i. ld_r_n t i) c.ld_r_n-d.ensures c.done.ensures (refl, (refl, (refl, (refl, omega arith)))) refl refl refl
+returns c = still _ _ _ _ _ c.requires 14849 1 _ _ _ _ c.if-not-known.false c.ins1-i.ensures c.with_pc.ensures (λ t i. ld_r_n t i) c.ld_r_n-d.ensures c.done.ensures (refl, (refl, (refl, (refl, omega arith)))) refl refl refl

@@ -1,7 +1,6 @@
 -- `quickbits::on_bits::rot_sx` meets its contract.
 use mathlib.Core.Path.{refl}
 use native.Mathlib.Omega.{arith}
-use borrow.Author.Tests.{eq-eqb}
 use Rattle.plan.specs.Places.{spot_of}
 use Rattle.bus.specs.Access.{count}
 use Rattle.cpu.specs.Program.{ins_of}
@@ -30,4 +29,4 @@ returns-then-not-stored c = declines _ _ _ _ _ _ _ c.none-then-not-stored.ensure
 
 pub returns : goal.returns
 unfolding ins_of count spot_of execute_of execute_by rot_m
-returns c = moves _ _ _ _ _ c.requires 48280 0 _ _ _ _ (eq-eqb _ _ c.if-not-known.false) c.ins0-i.ensures c.with_pc.ensures _ _ (λ t i s v. rot_m t i s v) _ (at_index _ _ c.args.u c.args.r _ c.requires 48280 0 _ (eq-eqb _ _ c.if-not-known.false) c.ins0-i.ensures _ _ _ _ _ c.data_at-s.ensures c.displace.ensures c.index.ensures c.low8.ensures) c.rot_m-d.ensures 1 (c.byte_at-g.ensures _ c.in-Is.is) (c.put_byte-stored.ensures.wrote c.if-not-stored.false) c.done.ensures (refl, (refl, (refl, (refl, omega arith)))) refl refl refl
+returns c = moves _ _ _ _ _ c.requires 48280 0 _ _ _ _ c.if-not-known.false c.ins0-i.ensures c.with_pc.ensures _ _ (λ t i s v. rot_m t i s v) _ (at_index _ _ c.args.u c.args.r _ c.requires 48280 0 _ c.if-not-known.false c.ins0-i.ensures _ _ _ _ _ c.data_at-s.ensures c.displace.ensures c.index.ensures c.low8.ensures) c.rot_m-d.ensures 1 (c.byte_at-g.ensures _ c.in-Is.is) (c.put_byte-stored.ensures.wrote c.if-not-stored.false) c.done.ensures (refl, (refl, (refl, (refl, omega arith)))) refl refl refl

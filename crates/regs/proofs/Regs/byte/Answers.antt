@@ -39,4 +39,4 @@ returns-in-7 c = simp (← c.a.ensures, c.in-7.is)
 
 pub returns-in_default : goal.returns-in_default
 unfolding byte_of
-returns-in_default c = sym (get_or-eq_default (bytes c.args.o c.args.self) (0) (past 8 (c.args.k) c.in_default.in_default-own.rest))
+returns-in_default c = sym (get_or-eq_default (bytes c.args.o c.args.self) (0) (past 8 c.args.k c.in_default.in_default-own.rest))

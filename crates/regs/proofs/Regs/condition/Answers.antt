@@ -40,4 +40,4 @@ returns-in-7 c = simp c.in-7.is
 
 pub returns-in_default : goal.returns-in_default
 unfolding condition_of
-returns-in_default c = sym (get_or-eq_default (conditions c.args.self) (false) (past 8 (c.args.k) c.in_default.in_default-own.rest))
+returns-in_default c = sym (get_or-eq_default (conditions c.args.self) (false) (past 8 c.args.k c.in_default.in_default-own.rest))

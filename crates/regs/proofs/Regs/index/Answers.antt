@@ -43,4 +43,4 @@ returns-in-8 c = simp c.in-8.is
 
 pub returns-in_default : goal.returns-in_default
 unfolding index_of
-returns-in_default c = sym (get_or-eq_default (indexes c.args.self) c.args.self.hl (past 9 (c.args.o) c.in_default.in_default-own.rest))
+returns-in_default c = sym (get_or-eq_default (indexes c.args.self) c.args.self.hl (past 9 c.args.o c.in_default.in_default-own.rest))

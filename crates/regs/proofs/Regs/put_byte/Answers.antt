@@ -1,6 +1,5 @@
 -- `regs::Regs::put_byte` meets its contract.
-use Rattle.regs.specs.Select.{put_byte}
-use Rattle.regs.specs.Select.{put_bytes}
+use Rattle.regs.specs.Select.{put_byte, put_bytes}
 use Rattle.sums.proofs.Past.{past}
 use lib.ListN.{get_or-eq_default}
 use mathlib.Core.Path.{sym}

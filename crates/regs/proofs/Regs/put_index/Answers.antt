@@ -44,4 +44,4 @@ returns-in-8 c = simp (← c.with_iy-in-8.ensures, c.in-8.is)
 
 pub returns-in_default : goal.returns-in_default
 unfolding put_index
-returns-in_default c = c.with_hl-in_default.ensures ∙ sym (get_or-eq_default (put_indexes c.args.v c.args.self) (with_hl c.args.v c.args.self) (past 9 (c.args.o) c.in_default.in_default-own.rest))
+returns-in_default c = c.with_hl-in_default.ensures ∙ sym (get_or-eq_default (put_indexes c.args.v c.args.self) (with_hl c.args.v c.args.self) (past 9 c.args.o c.in_default.in_default-own.rest))

@@ -23,4 +23,4 @@ returns-in-3 c = simp (← c.with_af.ensures, c.in-3.is)
 
 pub returns-in_default : goal.returns-in_default
 unfolding put_stacked
-returns-in_default c = sym (get_or-eq_default (put_stackeds c.args.o c.args.v c.args.self) (c.args.self) (past 4 (c.args.k) c.in_default.in_default-own.rest))
+returns-in_default c = sym (get_or-eq_default (put_stackeds c.args.o c.args.v c.args.self) c.args.self (past 4 c.args.k c.in_default.in_default-own.rest))

@@ -23,4 +23,4 @@ returns-in-3 c = simp c.in-3.is
 
 pub returns-in_default : goal.returns-in_default
 unfolding stacked_of
-returns-in_default c = sym (get_or-eq_default (stackeds c.args.o c.args.self) (0) (past 4 (c.args.k) c.in_default.in_default-own.rest))
+returns-in_default c = sym (get_or-eq_default (stackeds c.args.o c.args.self) (0) (past 4 c.args.k c.in_default.in_default-own.rest))
