@@ -1,4 +1,4 @@
-// The registers with one of them changed. Each method is a literal of all fields: so a run keeps the record in the processor's own registers.
+// The registers with one of them changed.
 ghost use Rattle.std.specs.Prelude.{◌≡◌};
 ghost use Rattle.regs.specs.Change.{with_af, with_bc, with_de, with_hl, with_ix, with_iy, with_pc, with_ssp, with_usp, with_block, exchange_af, exchange_x};
 
@@ -31,222 +31,62 @@ impl Regs {
     pub fn with_af(self, v: u16) -> Regs
         ensures { result ≡ with_af v self }
     {
-        Regs {
-            af: v,
-            bc: self.bc,
-            de: self.de,
-            hl: self.hl,
-            af2: self.af2,
-            bc2: self.bc2,
-            de2: self.de2,
-            hl2: self.hl2,
-            ix: self.ix,
-            iy: self.iy,
-            pc: self.pc,
-            ssp: self.ssp,
-            usp: self.usp,
-            bankaf: self.bankaf,
-            bankx: self.bankx,
-        }
+        Regs { af: v, ..self }
     }
 
     pub fn with_bc(self, v: u16) -> Regs
         ensures { result ≡ with_bc v self }
     {
-        Regs {
-            af: self.af,
-            bc: v,
-            de: self.de,
-            hl: self.hl,
-            af2: self.af2,
-            bc2: self.bc2,
-            de2: self.de2,
-            hl2: self.hl2,
-            ix: self.ix,
-            iy: self.iy,
-            pc: self.pc,
-            ssp: self.ssp,
-            usp: self.usp,
-            bankaf: self.bankaf,
-            bankx: self.bankx,
-        }
+        Regs { bc: v, ..self }
     }
 
     pub fn with_de(self, v: u16) -> Regs
         ensures { result ≡ with_de v self }
     {
-        Regs {
-            af: self.af,
-            bc: self.bc,
-            de: v,
-            hl: self.hl,
-            af2: self.af2,
-            bc2: self.bc2,
-            de2: self.de2,
-            hl2: self.hl2,
-            ix: self.ix,
-            iy: self.iy,
-            pc: self.pc,
-            ssp: self.ssp,
-            usp: self.usp,
-            bankaf: self.bankaf,
-            bankx: self.bankx,
-        }
+        Regs { de: v, ..self }
     }
 
     pub fn with_hl(self, v: u16) -> Regs
         ensures { result ≡ with_hl v self }
     {
-        Regs {
-            af: self.af,
-            bc: self.bc,
-            de: self.de,
-            hl: v,
-            af2: self.af2,
-            bc2: self.bc2,
-            de2: self.de2,
-            hl2: self.hl2,
-            ix: self.ix,
-            iy: self.iy,
-            pc: self.pc,
-            ssp: self.ssp,
-            usp: self.usp,
-            bankaf: self.bankaf,
-            bankx: self.bankx,
-        }
+        Regs { hl: v, ..self }
     }
 
     pub fn with_ix(self, v: u16) -> Regs
         ensures { result ≡ with_ix v self }
     {
-        Regs {
-            af: self.af,
-            bc: self.bc,
-            de: self.de,
-            hl: self.hl,
-            af2: self.af2,
-            bc2: self.bc2,
-            de2: self.de2,
-            hl2: self.hl2,
-            ix: v,
-            iy: self.iy,
-            pc: self.pc,
-            ssp: self.ssp,
-            usp: self.usp,
-            bankaf: self.bankaf,
-            bankx: self.bankx,
-        }
+        Regs { ix: v, ..self }
     }
 
     pub fn with_iy(self, v: u16) -> Regs
         ensures { result ≡ with_iy v self }
     {
-        Regs {
-            af: self.af,
-            bc: self.bc,
-            de: self.de,
-            hl: self.hl,
-            af2: self.af2,
-            bc2: self.bc2,
-            de2: self.de2,
-            hl2: self.hl2,
-            ix: self.ix,
-            iy: v,
-            pc: self.pc,
-            ssp: self.ssp,
-            usp: self.usp,
-            bankaf: self.bankaf,
-            bankx: self.bankx,
-        }
+        Regs { iy: v, ..self }
     }
 
     pub fn with_pc(self, v: u16) -> Regs
         ensures { result ≡ with_pc v self }
     {
-        Regs {
-            af: self.af,
-            bc: self.bc,
-            de: self.de,
-            hl: self.hl,
-            af2: self.af2,
-            bc2: self.bc2,
-            de2: self.de2,
-            hl2: self.hl2,
-            ix: self.ix,
-            iy: self.iy,
-            pc: v,
-            ssp: self.ssp,
-            usp: self.usp,
-            bankaf: self.bankaf,
-            bankx: self.bankx,
-        }
+        Regs { pc: v, ..self }
     }
 
     pub fn with_ssp(self, v: u16) -> Regs
         ensures { result ≡ with_ssp v self }
     {
-        Regs {
-            af: self.af,
-            bc: self.bc,
-            de: self.de,
-            hl: self.hl,
-            af2: self.af2,
-            bc2: self.bc2,
-            de2: self.de2,
-            hl2: self.hl2,
-            ix: self.ix,
-            iy: self.iy,
-            pc: self.pc,
-            ssp: v,
-            usp: self.usp,
-            bankaf: self.bankaf,
-            bankx: self.bankx,
-        }
+        Regs { ssp: v, ..self }
     }
 
     pub fn with_usp(self, v: u16) -> Regs
         ensures { result ≡ with_usp v self }
     {
-        Regs {
-            af: self.af,
-            bc: self.bc,
-            de: self.de,
-            hl: self.hl,
-            af2: self.af2,
-            bc2: self.bc2,
-            de2: self.de2,
-            hl2: self.hl2,
-            ix: self.ix,
-            iy: self.iy,
-            pc: self.pc,
-            ssp: self.ssp,
-            usp: v,
-            bankaf: self.bankaf,
-            bankx: self.bankx,
-        }
+        Regs { usp: v, ..self }
     }
 
     // What a block instruction steps.
     pub fn with_block(self, bc: u16, de: u16, hl: u16) -> Regs
         ensures { result ≡ with_block bc de hl self }
     {
-        Regs {
-            af: self.af,
-            bc: bc,
-            de: de,
-            hl: hl,
-            af2: self.af2,
-            bc2: self.bc2,
-            de2: self.de2,
-            hl2: self.hl2,
-            ix: self.ix,
-            iy: self.iy,
-            pc: self.pc,
-            ssp: self.ssp,
-            usp: self.usp,
-            bankaf: self.bankaf,
-            bankx: self.bankx,
-        }
+        Regs { bc, de, hl, ..self }
     }
 
     // EX AF,AF'.
@@ -255,20 +95,9 @@ impl Regs {
     {
         Regs {
             af: self.af2,
-            bc: self.bc,
-            de: self.de,
-            hl: self.hl,
             af2: self.af,
-            bc2: self.bc2,
-            de2: self.de2,
-            hl2: self.hl2,
-            ix: self.ix,
-            iy: self.iy,
-            pc: self.pc,
-            ssp: self.ssp,
-            usp: self.usp,
             bankaf: !self.bankaf,
-            bankx: self.bankx,
+            ..self
         }
     }
 
@@ -277,21 +106,14 @@ impl Regs {
         ensures { result ≡ exchange_x self }
     {
         Regs {
-            af: self.af,
             bc: self.bc2,
             de: self.de2,
             hl: self.hl2,
-            af2: self.af2,
             bc2: self.bc,
             de2: self.de,
             hl2: self.hl,
-            ix: self.ix,
-            iy: self.iy,
-            pc: self.pc,
-            ssp: self.ssp,
-            usp: self.usp,
-            bankaf: self.bankaf,
             bankx: !self.bankx,
+            ..self
         }
     }
 }

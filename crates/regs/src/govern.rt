@@ -18,10 +18,7 @@ impl Control {
     {
         Control {
             msr: v & 0x537F,
-            tcr: self.tcr,
-            iopage: self.iopage,
-            limit: self.limit,
-            vector: self.vector,
+            ..self
         }
     }
 
@@ -29,11 +26,8 @@ impl Control {
         ensures { result ≡ load_tcr v self }
     {
         Control {
-            msr: self.msr,
             tcr: (v % 8) as u8,
-            iopage: self.iopage,
-            limit: self.limit,
-            vector: self.vector,
+            ..self
         }
     }
 
@@ -41,11 +35,8 @@ impl Control {
         ensures { result ≡ load_iopage v self }
     {
         Control {
-            msr: self.msr,
-            tcr: self.tcr,
             iopage: (v % 256) as u8,
-            limit: self.limit,
-            vector: self.vector,
+            ..self
         }
     }
 
@@ -53,11 +44,8 @@ impl Control {
         ensures { result ≡ load_limit v self }
     {
         Control {
-            msr: self.msr,
-            tcr: self.tcr,
-            iopage: self.iopage,
             limit: v / 16 * 16,
-            vector: self.vector,
+            ..self
         }
     }
 
@@ -65,11 +53,8 @@ impl Control {
         ensures { result ≡ load_vector v self }
     {
         Control {
-            msr: self.msr,
-            tcr: self.tcr,
-            iopage: self.iopage,
-            limit: self.limit,
             vector: v / 16 * 16,
+            ..self
         }
     }
 }
