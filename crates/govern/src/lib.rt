@@ -2,8 +2,9 @@
 #![tactic(auto)]
 
 ghost use Rattle.std.specs.Prelude.{◌≡◌};
-ghost use Rattle.govern.specs.Govern.{ending, masked, disabled, enabled, di_of, ei_of, di_n, ei_n, control_at, put_control_at, ldctl_xx_c, ldctl_c_xx, ldctl_usp, retil_of, governing_by, govern_of};
+ghost use Rattle.govern.specs.Govern.{ending, masked, disabled, enabled, di_of, ei_of, di_n, ei_n, control_at, put_control_at, ldctl_xx_c, ldctl_c_xx, ldctl_usp, retil_of, govern_of};
 
+use decode::op;
 use plan::kinds::{Governed, Ins, low8, low16, plus16};
 use regs::select::low_of;
 use regs::{Control, Regs};
@@ -118,29 +119,19 @@ pub fn retil(r: Regs, c: Control, v: u32) -> Governed
     end(r.with_ssp(plus16(r.ssp, 4)).with_pc(pc), c.load_msr(msr))
 }
 
-fn govern_by(k: u8, r: Regs, c: Control, i: Ins, v: u32) -> Governed
-    ensures { result ≡ governing_by k r c i v }
-{
-    match k {
-        0 => di(r, c),
-        1 => ei(r, c),
-        2 => di_n(r, c, i),
-        3 => ei_n(r, c, i),
-        4 => ldctl_xx_c(r, c, i),
-        5 => ldctl_c_xx(r, c, i),
-        6 => ldctl_usp(r, c, i),
-        7 => retil(r, c, v),
-        _ => end(r, c),
-    }
-}
-
-// Operations 16 to 23.
+// Operations 16 to 23; no other governs.
 pub fn govern(r: Regs, c: Control, i: Ins, v: u32) -> Governed
     ensures { result ≡ govern_of r c i v }
 {
-    let below = i.op < 16;
-    if below {
-        return end(r, c);
+    match i.op {
+        op::DI => di(r, c),
+        op::EI => ei(r, c),
+        op::DI_N => di_n(r, c, i),
+        op::EI_N => ei_n(r, c, i),
+        op::LDCTL_XX_C => ldctl_xx_c(r, c, i),
+        op::LDCTL_C_XX => ldctl_c_xx(r, c, i),
+        op::LDCTL_USP => ldctl_usp(r, c, i),
+        op::RETIL => retil(r, c, v),
+        _ => end(r, c),
     }
-    govern_by(i.op - 16, r, c, i, v)
 }

@@ -75,7 +75,7 @@ pub fn still(r: Regs) -> Done
     ensures { result ≡ quiet r }
 {
     Done {
-        regs: r.same(),
+        regs: r,
         write: Write::Nothing,
     }
 }
@@ -85,7 +85,7 @@ pub fn storing(r: Regs, s: Spot, b: u8) -> Done
     ensures { result ≡ stores r s b }
 {
     Done {
-        regs: r.same(),
+        regs: r,
         write: Write::One(s.program, s.a, b),
     }
 }
@@ -95,7 +95,7 @@ pub fn storing_word(r: Regs, s: Spot, v: u16) -> Done
     ensures { result ≡ stores_word r s v }
 {
     Done {
-        regs: r.same(),
+        regs: r,
         write: Write::Two(s.program, s.a, v),
     }
 }
