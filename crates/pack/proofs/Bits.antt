@@ -1,7 +1,7 @@
 -- Laws of one bit and one field: a byte's bits, the number that the first bits of a run of bytes spell, and the turns of a field's loops.
 use mathlib.Core.Path.{◌≡◌, refl, ◌∙◌, sym}
 use mathlib.Core.Logic.{⊎_elim}
-use Prim.Native.Nat.{ℕ, zero, suc, ◌+◌, ◌-◌, ◌*◌, ◌/◌, ◌%◌, ◌^◌, ◌<◌, ◌≤◌}
+use Prim.Native.Nat.{ℕ, suc, ◌+◌, ◌-◌, ◌*◌, ◌/◌, ◌%◌, ◌^◌, ◌<◌, ◌≤◌}
 use mathlib.Core.List.{List, [], ◌∷◌, ◌++◌}
 use native.Mathlib.Omega.{arith}
 use native.Mathlib.Nat.{div-one, div-eq_of_lt, mod-eq_of_lt, mul_assoc, add_assoc, add-zero, add-mul, eq-or-lt_of_le}
@@ -103,14 +103,16 @@ get_turn s p k v b there bytes h e =
 pub twice_lt : (k v b : ℕ) → v < 2 ^ k → b < 2 → v * 2 + b < 2 ^ (k + 1)
 twice_lt k v b h l = omega (arith, pow-add 2 k 1)
 
-pub put_start : (s : List ℕ) (p w v : ℕ) → v < 2 ^ w → prefix s p * 2 ^ w + v % 2 ^ w ≡ prefix s p * 2 ^ w + v
-put_start s p w v h = rw (mod-eq_of_lt h)
+pub put_start : (s : List ℕ) (p w v : ℕ) → v < 2 ^ w → prefix s (p + 0) * 2 ^ (w - 0) + v % 2 ^ (w - 0) ≡ prefix s p * 2 ^ w + v
+put_start s p w v h = let e : w - 0 ≡ w = omega arith in rw (add-zero p, e, mod-eq_of_lt h)
 
-pub put_turn : (s t : List ℕ) (p k v R : ℕ) → p / 8 < length s → Bytes s → zero < k
-    → t ≡ set s (p / 8) (with_bit (get_or s (p / 8) 0) (p % 8) (v / 2 ^ (k - 1) % 2))
-    → prefix s p * 2 ^ k + v % 2 ^ k ≡ R → prefix t (p + 1) * 2 ^ (k - 1) + v % 2 ^ (k - 1) ≡ R
-put_turn s t p k v R there bytes pos e h =
-    let j : ℕ = k - 1 in
-    let i : k ≡ 1 + j = omega arith in
-    rw (e, prefix_put s p there bytes (v / 2 ^ j % 2), add-mul)
+pub put_turn : (s t : List ℕ) (p w k v R : ℕ) → (p + k) / 8 < length s → Bytes s → k < w
+    → t ≡ set s ((p + k) / 8) (with_bit (get_or s ((p + k) / 8) 0) ((p + k) % 8) (v / 2 ^ (w - 1 - k) % 2))
+    → prefix s (p + k) * 2 ^ (w - k) + v % 2 ^ (w - k) ≡ R
+    → prefix t (p + (k + 1)) * 2 ^ (w - (k + 1)) + v % 2 ^ (w - (k + 1)) ≡ R
+put_turn s t p w k v R there bytes more e h =
+    let j : ℕ = w - 1 - k in
+    let i : w - k ≡ 1 + j = omega arith in
+    let d : w - (k + 1) ≡ j = omega arith in
+    rw (e, d, ← add_assoc p k 1, prefix_put s (p + k) there bytes (v / 2 ^ j % 2), add-mul)
     (omega (arith, rw (i, mod-pow-add v 1 j, pow-add 2 1 j, ← mul_assoc) at h))

@@ -51,5 +51,5 @@ pub record Table (ws : List ℕ) : Type 0 where
   pub narrow : (i : ℕ) → get_or ws i 0 ≤ 16
 
 -- the list d with s in it from index k on
-abbrev pub pasted : List ℕ → ℕ → List ℕ → List ℕ
+abbrev pub pasted : {A : Type 0} → List A → ℕ → List A → List A
 pasted d k s = take k d ++ s ++ drop (k + length s) d

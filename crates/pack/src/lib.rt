@@ -10,8 +10,7 @@ fn get_bit(s: &[u8], p: usize) -> u16
     requires { p / 8 < length s.now }
     ensures { result ≡ bit_of (get_or s.now (p / 8) 0) (p % 8) }
 {
-    let x = s[p / 8];
-    ((x as u16) >> (7 - p % 8)) % 2
+    ((s[p / 8] as u16) >> (7 - p % 8)) % 2
 }
 
 // A byte with b as its bit r; the bits after it become 0.
@@ -36,12 +35,8 @@ fn put_field(out: &mut [u8], p: usize, w: usize, v: u16)
     requires { Place out.old p w × (v < 2 ^ w) }
     ensures { Put out.old p w v out.new }
 {
-    let mut at = p;
-    let mut k = w;
-    while 0 < k {
-        k -= 1;
-        put_bit(out, at, (v >> k) % 2);
-        at += 1;
+    for j in 0..w {
+        put_bit(out, p + j, (v >> (w - 1 - j)) % 2);
     }
 }
 
@@ -50,11 +45,9 @@ fn get_field(s: &[u8], p: usize, w: usize) -> u16
     requires { Place s.now p w }
     ensures { Got s.now p w result }
 {
-    let mut v: u16 = 0;
-    let mut k: usize = 0;
-    while k < w {
+    let mut v = 0;
+    for k in 0..w {
         v = v * 2 + get_bit(s, p + k);
-        k += 1;
     }
     v
 }
@@ -64,13 +57,11 @@ pub fn put_all(out: &mut [u8], ws: &[u8], vs: &[u16])
     requires { Table ws.now × Fit ws.now vs.now × (size ws.now ≤ length out.old) }
     ensures { out.new ≡ pack ws.now vs.now ++ drop (size ws.now) out.old }
 {
-    let mut p: usize = 0;
-    let mut i: usize = 0;
-    while i < ws.len() {
-        let w = ws[i] as usize;
+    let mut p = 0;
+    for (i, &w) in ws.iter().enumerate() {
+        let w = w as usize;
         put_field(out, p, w, vs[i]);
         p += w;
-        i += 1;
     }
 }
 
@@ -79,26 +70,20 @@ pub fn get_all(s: &[u8], ws: &[u8], vs: &mut [u16])
     requires { Table ws.now × (length s.now ≡ size ws.now) × (length vs.old ≡ length ws.now) }
     ensures { vs.new ≡ unpack ws.now s.now }
 {
-    let mut p: usize = 0;
-    let mut i: usize = 0;
-    while i < ws.len() {
-        let w = ws[i] as usize;
+    let mut p = 0;
+    for (i, &w) in ws.iter().enumerate() {
+        let w = w as usize;
         vs[i] = get_field(s, p, w);
         p += w;
-        i += 1;
     }
 }
 
 // The list dst from index k on becomes src; the rest of it stays.
-pub fn copy_into(dst: &mut [u16], k: usize, src: &[u16])
+pub fn copy_into<T: Copy>(dst: &mut [T], k: usize, src: &[T])
     requires { k + length src.now ≤ length dst.old }
     ensures { dst.new ≡ pasted dst.old k src.now }
 {
-    let mut j: usize = 0;
-    while j < src.len() {
-        dst[k + j] = src[j];
-        j += 1;
-    }
+    dst[k..k + src.len()].copy_from_slice(src);
 }
 
 // The bytes s over those of out from index `at` on; the rest of it stays. Answers the index past them.
@@ -106,10 +91,6 @@ pub fn put_bytes(out: &mut [u8], at: usize, s: &[u8]) -> usize
     requires { at + length s.now ≤ length out.old }
     ensures { (result ≡ at + length s.now) × (out.new ≡ pasted out.old at s.now) }
 {
-    let mut j: usize = 0;
-    while j < s.len() {
-        out[at + j] = s[j];
-        j += 1;
-    }
+    copy_into(out, at, s);
     at + s.len()
 }

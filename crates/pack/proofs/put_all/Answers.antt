@@ -11,45 +11,34 @@ use Rattle.pack.proofs.put_all.Goals as goal
 
 pub loop-i-init : goal.loop-i-init
 loop-i-init c =
-    let z = c in
-    let a = z.args in
-    let b : Bytes a.out.now = λ k. (c.slice_known-1.given k).fits in
-    (reached_start a.ws.now a.vs.now _ z.requires.1 (prefix_none a.out.now b), refl, refl, b)
+    let a = c.args in
+    let b : Bytes a.out.now = search rules in
+    (reached_start a.ws.now a.vs.now _ c.requires.1 (prefix_none a.out.now b), refl, refl, b)
 
 pub put_field-requires : goal.put_field-requires
 put_field-requires c =
-    let z = c in
     let l = c.loop-i in
-    let a = z.args in (
-      reached_place a.ws.now a.vs.now (prefix l.out l.p) l.p l.i z.requires.0 l.invariant.0 (search rules) l.out (omega (arith, l.invariant.1, z.requires.2)),
-      reached_fits a.ws.now a.vs.now (prefix l.out l.p) l.p l.i z.requires.0 l.invariant.0 (search rules),
+    let a = c.args in (
+      reached_place a.ws.now a.vs.now (prefix l.out l.p) l.p l.i c.requires.0 l.invariant.0 (search rules) l.out (omega (arith, l.invariant.1, c.requires.2)),
+      reached_fits a.ws.now a.vs.now (prefix l.out l.p) l.p l.i c.requires.0 l.invariant.0 (search rules),
     )
-
-pub overflow_add-p : goal.overflow_add-p
-overflow_add-p c =
-    let z = c in
-    let l = c.loop-i in
-    let a = z.args in
-    omega (arith, (reached_within a.ws.now a.vs.now (prefix l.out l.p) l.p l.i z.requires.0 l.invariant.0 (search rules)).1)
 
 pub loop-i-preserved : goal.loop-i-preserved
 loop-i-preserved c =
-    let z = c in
     let l = c.loop-i in
-    let a = z.args in
+    let a = c.args in
     let g = c.put_field in (
-      reached_turn a.ws.now a.vs.now (prefix l.out l.p) l.p l.i z.requires.0 l.invariant.0 (search rules) _ g.ensures.spelt,
+      reached_turn a.ws.now a.vs.now (prefix l.out l.p) l.p l.i c.requires.0 l.invariant.0 (search rules) _ g.ensures.spelt,
       search rules,
-      g.ensures.past (size a.ws.now) (reached_within a.ws.now a.vs.now (prefix l.out l.p) l.p l.i z.requires.0 l.invariant.0 (search rules)).0 ∙ l.invariant.2,
-      λ k. (c.slice_known-in-loop-i-1.given k).fits,
+      g.ensures.past (size a.ws.now) (reached_within a.ws.now a.vs.now (prefix l.out l.p) l.p l.i c.requires.0 l.invariant.0 (search rules)).0 ∙ l.invariant.2,
+      search rules,
     )
 
 pub returns : goal.returns
 returns c =
-    let z = c in
     let l = c.loop-i in
-    let a = z.args in
-    let e = reached_end a.ws.now a.vs.now (prefix l.out l.p) l.p l.i z.requires.0 l.invariant.0 (search rules) in
-    packed a.ws.now a.vs.now l.out (omega (arith, l.invariant.1, z.requires.2)) l.invariant.3
+    let a = c.args in
+    let e = reached_end a.ws.now a.vs.now (prefix l.out l.p) l.p l.i c.requires.0 l.invariant.0 (search rules) in
+    packed a.ws.now a.vs.now l.out (omega (arith, l.invariant.1, c.requires.2)) l.invariant.3
     (sym (prefix_whole l.out (size a.ws.now) l.invariant.3) ∙ rw (← e.0) e.1)
     ∙ rw l.invariant.2

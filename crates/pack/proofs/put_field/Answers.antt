@@ -1,35 +1,31 @@
--- `put_field`: with k bits left to put, the bits so far and those k spell the field after what stood before it.
+-- `put_field`: with w - j bits left to put, the bits so far and those left spell the field after what stood before it.
 use borrow.Author.Rules.{rules}
 use native.Mathlib.Omega.{arith}
 use mathlib.Core.Path.{◌≡◌, refl}
-use Prim.Native.Nat.{◌+◌, ◌*◌, ◌/◌, ◌^◌}
+use Prim.Native.Nat.{◌+◌, ◌-◌, ◌*◌, ◌/◌, ◌^◌}
 use lib.Seq.{drop-set-lt}
 use Rattle.pack.specs.Field.{prefix}
 use Rattle.pack.proofs.Bits.{put_start, put_turn}
 use Rattle.pack.proofs.put_field.Goals as goal
 
-pub loop-k-init : goal.loop-k-init
-loop-k-init c =
+pub loop-j-init : goal.loop-j-init
+loop-j-init c =
     let a = c.args in
-    (refl, omega arith, refl, put_start a.out.now a.p a.w a.v c.requires.1, λ j h. refl, λ i. (c.slice_known-1.given i).fits)
+    (put_start a.out.now a.p a.w a.v c.requires.1, λ i h. refl, search rules)
 
-pub loop-k-preserved : goal.loop-k-preserved
-loop-k-preserved c =
-    let l = c.loop-k in
+pub loop-j-preserved : goal.loop-j-preserved
+loop-j-preserved c =
+    let l = c.loop-j in
     let a = c.args in
     let f = c.put_bit in (
-      omega arith,
-      omega arith,
+      put_turn l.out f.new.out a.p a.w l.j a.v (prefix a.out.now a.p * 2 ^ a.w + a.v) (omega arith) l.invariant.2 c.loop-j-test.true f.ensures l.invariant.0,
+      λ i h. rw (f.ensures, drop-set-lt i l.out ((a.p + l.j) / 8) _ (omega arith)) (l.invariant.1 i h),
       search rules,
-      put_turn l.out f.new.out l.at l.k a.v (prefix a.out.now a.p * 2 ^ a.w + a.v) (omega arith) l.invariant.5 (search rules) f.ensures l.invariant.3,
-      λ j h. rw (f.ensures, drop-set-lt j l.out (l.at / 8) _ (omega arith)) (l.invariant.4 j h),
-      λ i. (c.slice_known-in-loop-k-1.given i).fits,
     )
 
 pub returns : goal.returns
 returns c =
-    let l = c.loop-k in
-    let a = c.args in
-    let z : l.k ≡ 0 = omega arith in
-    let e : l.at ≡ a.p + a.w = omega arith in
-    record { spelt = omega (arith, rw (z, e) at l.invariant.3); past = l.invariant.4 }
+    let l = c.loop-j in
+    let e : l.j ≡ c.args.w = omega arith in
+    let z : c.args.w - c.args.w ≡ 0 = omega arith in
+    record { spelt = omega (arith, rw (e, z) at l.invariant.0); past = l.invariant.1 }

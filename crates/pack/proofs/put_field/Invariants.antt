@@ -1,19 +1,13 @@
--- `put_field`: with k bits left to put, the bits so far and those k spell the field after what stood before it.
+-- `put_field`: with w - j bits left to put, the bits so far and those left spell the field after what stood before it.
 use mathlib.Core.Path.{◌≡◌}
-use Prim.Native.Nat.{ℕ, ◌+◌, ◌*◌, ◌%◌, ◌^◌, ◌≤◌}
-use lib.ListN.{length, drop}
+use Prim.Native.Nat.{ℕ, ◌+◌, ◌-◌, ◌*◌, ◌%◌, ◌^◌, ◌≤◌}
+use lib.ListN.{drop}
 use Rattle.pack.specs.Field.{prefix}
 use Rattle.pack.proofs.Laws.{Bytes}
 use Rattle.pack.proofs.put_field.Given as goal
 
-abbrev pub invariant-loop-k : goal.invariant-loop-k
-invariant-loop-k l =
-    (l.at + l.k ≡ l.p + l.w)
-    × (l.k ≤ l.w)
-    × (length l.out ≡ length l.initial.out)
-    × (prefix l.out l.at * 2 ^ l.k + l.v % 2 ^ l.k ≡ prefix l.initial.out l.p * 2 ^ l.w + l.v)
-    × ((j : ℕ) → l.p + l.w ≤ j * 8 → drop j l.out ≡ drop j l.initial.out)
+abbrev pub invariant-loop-j : goal.invariant-loop-j
+invariant-loop-j l =
+    (prefix l.out (l.p + l.j) * 2 ^ (l.w - l.j) + l.v % 2 ^ (l.w - l.j) ≡ prefix l.initial.out l.p * 2 ^ l.w + l.v)
+    × ((i : ℕ) → l.p + l.w ≤ i * 8 → drop i l.out ≡ drop i l.initial.out)
     × Bytes l.out
-
-abbrev pub decreases-loop-k : goal.decreases-loop-k
-decreases-loop-k l = l.k

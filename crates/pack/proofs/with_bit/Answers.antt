@@ -1,15 +1,6 @@
 -- `with_bit`: the kept bits are fewer than 2 ^ r, so the shift loses nothing.
-use native.Mathlib.Omega.{arith}
-use Prim.Native.Nat.{◌-◌}
-use lib.Pow.{shr_le}
 use Rattle.pack.proofs.Bits.{with_bit_lt, with_bit_shl}
 use Rattle.pack.proofs.with_bit.Goals as goal
-
-pub overflow_mul-result : goal.overflow_mul-result
-overflow_mul-result c = omega (arith, shr_le c.args.x (8 - c.args.r))
-
-pub overflow_add-result : goal.overflow_add-result
-overflow_add-result c = omega (arith, shr_le c.args.x (8 - c.args.r))
 
 pub returns : goal.returns
 returns c =
