@@ -4,7 +4,7 @@
 
 ghost use Rattle.std.specs.Prelude.{◌≡◌, length};
 ghost use Rattle.bus.specs.Leave.{event_of};
-ghost use Rattle.events.specs.Events.{numbers, direction_of, stop_numbers, event_numbers};
+ghost use Rattle.events.specs.Events.{numbers, stop_numbers, event_numbers};
 ghost use Rattle.events.specs.Bytes.{answer_bytes};
 
 use bus::kinds::Event;
@@ -30,57 +30,45 @@ fn with_values(number: u16, first: u64, second: u64) -> Numbered
     }
 }
 
-fn direction(out: bool) -> u64
-    ensures { result ≡ direction_of out }
-{
-    if out { 1 } else { 0 }
-}
+impl From<Stop> for Numbered {
+    ghost from_gives = { λ s n. n ≡ stop_numbers s };
 
-fn stop_numbers(s: Stop) -> Numbered
-    ensures { result ≡ stop_numbers s }
-{
-    match s {
-        Stop::Privileged(a) => with_values(3, a as u64, 0),
-        Stop::Call(operand, next) => with_values(4, operand as u64, next as u64),
-        Stop::Extended(a) => with_values(5, a as u64, 0),
-        Stop::Halted => with_values(6, 0, 0),
-        Stop::Break(a) => with_values(7, a as u64, 0),
-        Stop::Port(p, out) => with_values(8, p as u64, direction(out)),
-        Stop::Nothing(a) => with_values(9, a as u64, 0),
+    #[tactic(auto, unfolding(crate::specs::Events::stop_numbers))]
+    fn from(s: Stop) -> Numbered {
+        match s {
+            Stop::Privileged(a) => with_values(3, u64::from(a), 0),
+            Stop::Call(operand, next) => with_values(4, u64::from(operand), u64::from(next)),
+            Stop::Extended(a) => with_values(5, u64::from(a), 0),
+            Stop::Halted => with_values(6, 0, 0),
+            Stop::Break(a) => with_values(7, u64::from(a), 0),
+            Stop::Port(p, out) => with_values(8, u64::from(p), u64::from(out)),
+            Stop::Nothing(a) => with_values(9, u64::from(a), 0),
+        }
     }
 }
 
-pub fn event_numbers(e: Event) -> Numbered
-    ensures { result ≡ event_numbers (event_of e) }
-{
-    match e {
-        Event::Completed => with_values(0, 0, 0),
-        Event::Violation(n, a) => with_values(1, n as u64, a as u64),
-        Event::Absent(p) => with_values(2, p, 0),
-        Event::Stopped(s) => stop_numbers(s),
+impl From<Event> for Numbered {
+    ghost from_gives = { λ e n. n ≡ event_numbers (event_of e) };
+
+    #[tactic(auto, unfolding(crate::specs::Events::event_numbers, bus::specs::Leave::event_of))]
+    fn from(e: Event) -> Numbered {
+        match e {
+            Event::Completed => with_values(0, 0, 0),
+            Event::Violation(n, a) => with_values(1, u64::from(n), u64::from(a)),
+            Event::Absent(p) => with_values(2, p, 0),
+            Event::Stopped(s) => Numbered::from(s),
+        }
     }
 }
 
 fn laid_out(e: Numbered, steps: u16) -> [u8; 12]
     ensures { result ≡ answer_bytes e steps }
 {
-    let n = e.number;
-    let a = e.first;
-    let b = e.second;
-    [
-        (n % 256) as u8,
-        (n / 256 % 256) as u8,
-        (steps % 256) as u8,
-        (steps / 256 % 256) as u8,
-        (a % 256) as u8,
-        (a / 256 % 256) as u8,
-        (a / 256 / 256 % 256) as u8,
-        (a / 256 / 256 / 256 % 256) as u8,
-        (b % 256) as u8,
-        (b / 256 % 256) as u8,
-        (b / 256 / 256 % 256) as u8,
-        (b / 256 / 256 / 256 % 256) as u8,
-    ]
+    let [n0, n1] = e.number.to_le_bytes();
+    let [s0, s1] = steps.to_le_bytes();
+    let [a0, a1, a2, a3, ..] = e.first.to_le_bytes();
+    let [b0, b1, b2, b3, ..] = e.second.to_le_bytes();
+    [n0, n1, s0, s1, a0, a1, a2, a3, b0, b1, b2, b3]
 }
 
 // The event and the completed steps into the 12 bytes.
@@ -88,7 +76,5 @@ pub fn put_answer(out: &mut [u8], e: Event, steps: u16)
     requires { length out.old ≡ 12 }
     ensures { out.new ≡ answer_bytes (event_numbers (event_of e)) steps }
 {
-    let n = event_numbers(e);
-    let b = laid_out(n, steps);
-    pack::put_bytes(out, 0, &b);
+    out.copy_from_slice(&laid_out(Numbered::from(e), steps));
 }

@@ -13,7 +13,7 @@ use Rattle.bus.specs.Leave.{event_of}
 use Rattle.events.specs.declared.Numbered.{Numbered}
 use Rattle.events.specs.Events.{direction_of, stop_numbers, event_numbers}
 use Rattle.events.specs.Bytes.{little, answer_bytes}
-use Rattle.handed.specs.Handed.{spelt, violation_in, privileged_in, call_in, break_in, delivered, event_in}
+use Rattle.handed.specs.Handed.{spelt, violation_in, alone, call_in, taken, delivered, event_in}
 use Rattle.handed.specs.Codec.{StopFits, Fits, StopInRange, InRange, numbers_in, named, stop_handed, handed, Codec}
 
 -- ---- bytes of a number
@@ -98,7 +98,7 @@ module _ (steps : ℕ) where
   over n h = ap handed_by (numbers_back n steps h)
 
   stop_handed_lem : (s : Stop) → StopInRange s → read (stop_numbers s) ≡ stop_handed s
-  unfolding event_in answer_bytes little spelt delivered privileged_in call_in break_in StopFits StopInRange stop_numbers stop_handed
+  unfolding event_in answer_bytes little spelt delivered taken alone call_in StopFits StopInRange stop_numbers stop_handed
   stop_handed_lem (Privileged a) h = over (stop_numbers (Privileged a)) (stop_small (Privileged a) h) ∙ rw (lt-leb 65536 a h)
   stop_handed_lem (Call operand next) h =
       over (stop_numbers (Call operand next)) (stop_small (Call operand next) h) ∙ rw (lt-leb 65536 operand h.0, lt-leb 65536 next h.1)
@@ -109,7 +109,7 @@ module _ (steps : ℕ) where
   stop_handed_lem (Nothing a) h = refl
 
   handed_over : (e : Event) → InRange e → read (event_numbers (event_of e)) ≡ handed e
-  unfolding event_in answer_bytes little spelt delivered violation_in Fits InRange event_numbers event_of handed
+  unfolding event_in answer_bytes little spelt delivered taken violation_in Fits InRange event_numbers event_of handed
   handed_over Completed h = refl
   handed_over (Violation i a) h =
       over (event_numbers (event_of (Violation i a))) (small (Violation i a) h) ∙ rw (lt-leb 32 i h.0, lt-leb 65536 a h.1)

@@ -1,2 +1,1 @@
 pub mod Codec
-pub mod Laws

@@ -12,8 +12,8 @@ pub fn event_in(s: &[u8]) -> Event
     requires { length s.now ≡ 12 }
     ensures { result ≡ event_in s.now }
 {
-    let number = delivered::word(s[0], s[1]);
-    let first = delivered::long(s[4], s[5], s[6], s[7]);
-    let second = delivered::long(s[8], s[9], s[10], s[11]);
+    let number = u16::from_le_bytes([s[0], s[1]]);
+    let first = u32::from_le_bytes([s[4], s[5], s[6], s[7]]);
+    let second = u32::from_le_bytes([s[8], s[9], s[10], s[11]]);
     delivered::event_of(number, first, second)
 }
