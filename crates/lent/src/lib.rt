@@ -7,6 +7,7 @@ ghost use Rattle.bus.specs.Leave.{event_of};
 ghost use Rattle.lent.specs.Lent.{formed, reset_form, lent_refusal, completed_by, moved, deliver_form, make_form};
 
 use bus::kinds::Event;
+use events::Numbered;
 use form::{LENGTH, Restored, read_form, write_form};
 
 // The reset record into the form, with so many frames of memory. Refusals 3, 1.
@@ -42,7 +43,7 @@ pub fn lent_refusal(a: Restored, memory: usize, bytes: usize) -> u8
 pub fn completed_by(e: Event) -> u16
     ensures { result ≡ completed_by (event_of e) }
 {
-    let n = events::event_numbers(e);
+    let n = Numbered::from(e);
     let completed = n.number == 0;
     if completed { 1 } else { 0 }
 }

@@ -2,6 +2,7 @@
 ghost use Rattle.std.specs.Prelude.{◌≡◌};
 ghost use Rattle.show.specs.Image.{outcome, worked, shown_of};
 
+use events::Numbered;
 use line::Shown;
 use regs::Machine;
 
@@ -18,7 +19,7 @@ fn work(m: Machine, frames: u16, w: &mut [u8]) -> Shown
         let e = a.event;
         let next = a.machine;
         let r = next.regs;
-        let k = events::event_numbers(e);
+        let k = Numbered::from(e);
         Shown::Ended(k.number, a.steps, r.pc)
     } else {
         Shown::Refused(1)
