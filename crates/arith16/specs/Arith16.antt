@@ -9,11 +9,10 @@ use Rattle.plan.specs.declared.kinds.Spot.{Spot}
 use Rattle.plan.specs.declared.kinds.Done.{Done}
 use Rattle.plan.specs.Kinds.{quiet, stores_word, word, bits54}
 use Rattle.plan.specs.Results.{into_hl}
-use Rattle.sums.specs.declared.Word.{Word}
+use Rattle.sums.specs.declared.WithF.{WithF}
 use Rattle.sums.specs.Width.{add_value, sub_value, extended}
 use Rattle.sums.specs.Sums.{adcw_of, add_hl_of, add_a_of, addw_of, subw_of, cpw_of, negw_of, sbcw_of}
-use Rattle.products.specs.declared.Long.{Long}
-use Rattle.products.specs.Products.{multw_of, multuw_of}
+use Rattle.products.specs.Products.{mult_of, multu_of}
 
 -- the register pair of bits 5 and 4: BC, DE, XX, SP
 unfoldable pub field_of : Regs → Bool → Ins → ℕ
@@ -23,7 +22,7 @@ field_of r u i = pair_of u i.opening (bits54 i) r
 abbrev pub xx_of : Regs → Ins → ℕ
 xx_of r i = index_of i.opening r
 
-unfoldable pub put_xx : Regs → Ins → Word → Done
+unfoldable pub put_xx : Regs → Ins → WithF ℕ → Done
 put_xx r i x = quiet (put_index i.opening x.value (with_f x.f r))
 
 -- ADC of words, line 1759
@@ -39,7 +38,7 @@ unfoldable pub add_xx_a : Regs → Ins → Done
 add_xx_a r i = put_xx r i (add_a_of (xx_of r i) (a_of r) (f_of r))
 
 -- CPW, line 2596, where bit 0 of the operation code is set: a stays; SUBW, line 7097, where bit 3 is set; else ADDW, line 2037
-unfoldable pub aluw_by : (code a b f : ℕ) → Word
+unfoldable pub aluw_by : (code a b f : ℕ) → WithF ℕ
 aluw_by code a b f =
     cond (eqb (code % 2) 1) (record { value = a; f = cpw_of a b f })
     (cond (eqb (code / 8 % 2) 1) (subw_of a b f) (addw_of a b f))
@@ -81,11 +80,11 @@ unfoldable pub incw_m : Regs → Spot → ℕ → Done
 incw_m r s v = stores_word r s (add_value 16 (word v) 1 0)
 
 -- MULTW, line 5235; MULTUW, line 5176, where bit 0 is set: into DE and HL; b is the source
-unfoldable pub put_product : Regs → Long → Done
+unfoldable pub put_product : Regs → WithF ℕ → Done
 put_product r x = quiet (with_long x.value (with_f x.f r))
 
 unfoldable pub multw_on : Regs → Ins → ℕ → Done
-multw_on r i b = put_product r (cond (eqb (i.code % 2) 1) (multuw_of r.hl b (f_of r)) (multw_of r.hl b (f_of r)))
+multw_on r i b = put_product r (cond (eqb (i.code % 2) 1) (multu_of 16 r.hl b (f_of r)) (mult_of 16 r.hl b (f_of r)))
 
 -- with a register pair; an immediate; a word of memory
 unfoldable pub multw_rr : Regs → Bool → Ins → Done

@@ -1,14 +1,13 @@
 // 16 bit arithmetic: what each instruction makes of the registers, whose PC is past it already, and of its operand.
-#![tactic(auto)]
+#![tactic(auto, unfolding(crate::specs::Arith16::field_of, crate::specs::Arith16::put_xx, crate::specs::Arith16::adc_xx_rr, crate::specs::Arith16::add_xx_rr, crate::specs::Arith16::add_xx_a, crate::specs::Arith16::aluw_by, crate::specs::Arith16::aluw_on, crate::specs::Arith16::aluw_rr, crate::specs::Arith16::aluw_nn, crate::specs::Arith16::aluw_m, crate::specs::Arith16::decw_rr, crate::specs::Arith16::decw_m, crate::specs::Arith16::exts_hl, crate::specs::Arith16::incw_rr, crate::specs::Arith16::incw_m, crate::specs::Arith16::put_product, crate::specs::Arith16::multw_on, crate::specs::Arith16::multw_rr, crate::specs::Arith16::multw_nn, crate::specs::Arith16::multw_m, crate::specs::Arith16::neg_hl, crate::specs::Arith16::sbc_xx_rr))]
 
 ghost use Rattle.std.specs.Prelude.{◌≡◌};
 ghost use Rattle.arith16.specs.Arith16.{field_of, put_xx, adc_xx_rr, add_xx_rr, add_xx_a, aluw_by, aluw_rr, aluw_nn, aluw_m, decw_rr, decw_m, with_long, exts_hl, incw_rr, incw_m, put_product, multw_on, multw_rr, multw_nn, multw_m, neg_hl, sbc_xx_rr};
 
 use plan::kinds::{Done, Ins, Spot, low16, still, storing_word};
 use plan::results::into_hl;
-use products::Long;
 use regs::Regs;
-use sums::Word;
+use sums::WithF;
 
 // The register pair of bits 5 and 4.
 fn field(r: Regs, u: bool, i: Ins) -> u16
@@ -17,7 +16,7 @@ fn field(r: Regs, u: bool, i: Ins) -> u16
     r.pair(u, i.opening, i.code / 16 % 4)
 }
 
-fn put_xx(r: Regs, i: Ins, x: Word) -> Done
+fn put_xx(r: Regs, i: Ins, x: WithF<u16>) -> Done
     ensures { result ≡ put_xx r i x }
 {
     still(r.with_f(x.f).put_index(i.opening, x.value))
@@ -46,12 +45,12 @@ pub fn add_xx_a(r: Regs, i: Ins) -> Done
 }
 
 // CPW, SUBW or ADDW of a and b, on numbers: a function on the whole record would take it through memory.
-fn aluw(code: u8, a: u16, b: u16, f: u8) -> Word
+fn aluw(code: u8, a: u16, b: u16, f: u8) -> WithF<u16>
     ensures { result ≡ aluw_by code a b f }
 {
     let compares = code % 2 == 1;
     if compares {
-        return Word {
+        return WithF {
             value: a,
             f: sums::cpw(a, b, f),
         };
@@ -118,7 +117,7 @@ pub fn incw_m(r: Regs, s: Spot, v: u32) -> Done
     storing_word(r, s, sums::incw(low16(v)))
 }
 
-fn put_product(r: Regs, x: Long) -> Done
+fn put_product(r: Regs, x: WithF<u32>) -> Done
     ensures { result ≡ put_product r x }
 {
     still(with_long(r.with_f(x.f), x.value))
@@ -130,9 +129,9 @@ fn multw_on(r: Regs, i: Ins, b: u16) -> Done
 {
     let unsigned = i.code % 2 == 1;
     if unsigned {
-        return put_product(r, products::multu16(r.hl, b, r.f()));
+        return put_product(r, products::multu(r.hl, b, r.f()));
     }
-    put_product(r, products::mult16(r.hl, b, r.f()))
+    put_product(r, products::mult(r.hl, b, r.f()))
 }
 
 pub fn multw_rr(r: Regs, u: bool, i: Ins) -> Done

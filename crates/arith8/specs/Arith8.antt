@@ -57,7 +57,7 @@ inc_m r s v = into_m r s (inc_of (byte v) (f_of r))
 
 -- MULT, line 5052; MULTU, line 5114, where bit 0 is set: into HL; b is the source
 unfoldable pub mult_on : Regs → Ins → ℕ → Done
-mult_on r i b = into_hl r (cond (eqb (i.code % 2) 1) (multu_of (a_of r) b (f_of r)) (mult_of (a_of r) b (f_of r)))
+mult_on r i b = into_hl r (cond (eqb (i.code % 2) 1) (multu_of 8 (a_of r) b (f_of r)) (mult_of 8 (a_of r) b (f_of r)))
 
 -- with the register of bits 5 to 3; an immediate; a byte of memory
 unfoldable pub mult_r : Regs → Ins → Done

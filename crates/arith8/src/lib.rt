@@ -1,5 +1,5 @@
 // 8 bit arithmetic and logic: what each instruction makes of the registers, whose PC is past it already, and of its operand.
-#![tactic(auto)]
+#![tactic(auto, unfolding(crate::specs::Arith8::alu_on, crate::specs::Arith8::alu_r, crate::specs::Arith8::alu_n, crate::specs::Arith8::alu_m, crate::specs::Arith8::cpl_a, crate::specs::Arith8::field_of, crate::specs::Arith8::dec_r, crate::specs::Arith8::dec_m, crate::specs::Arith8::exts_a, crate::specs::Arith8::inc_r, crate::specs::Arith8::inc_m, crate::specs::Arith8::mult_on, crate::specs::Arith8::mult_r, crate::specs::Arith8::mult_n, crate::specs::Arith8::mult_m, crate::specs::Arith8::neg_a))]
 
 ghost use Rattle.std.specs.Prelude.{◌≡◌};
 ghost use Rattle.arith8.specs.Arith8.{alu_r, alu_n, alu_m, cpl_a, field_of, dec_r, dec_m, exts_a, inc_r, inc_m, mult_on, mult_r, mult_n, mult_m, neg_a};
@@ -77,9 +77,9 @@ fn mult_on(r: Regs, i: Ins, b: u8) -> Done
 {
     let unsigned = i.code % 2 == 1;
     if unsigned {
-        return into_hl(r, products::multu8(r.a(), b, r.f()));
+        return into_hl(r, products::multu(r.a(), b, r.f()));
     }
-    into_hl(r, products::mult8(r.a(), b, r.f()))
+    into_hl(r, products::mult(r.a(), b, r.f()))
 }
 
 pub fn mult_r(r: Regs, i: Ins) -> Done

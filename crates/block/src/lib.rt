@@ -1,5 +1,5 @@
 // Block moves and searches: one repetition, which is one step.
-#![tactic(auto)]
+#![tactic(auto, unfolding(crate::specs::Block::counted, crate::specs::Block::moved, crate::specs::Block::searched, crate::specs::Block::staying, crate::specs::Block::cpd, crate::specs::Block::cpdr, crate::specs::Block::cpi, crate::specs::Block::cpir, crate::specs::Block::ldd, crate::specs::Block::lddr, crate::specs::Block::ldi, crate::specs::Block::ldir))]
 
 ghost use Rattle.std.specs.Prelude.{◌≡◌};
 ghost use Rattle.block.specs.Block.{left, more, compared, counted, moved, searched, staying, seeking, cpd, cpdr, cpi, cpir, ldd, lddr, ldi, ldir};
@@ -29,7 +29,7 @@ fn has_more(r: Regs) -> bool
 fn compare(r: Regs, v: u32) -> Flags
     ensures { result ≡ compared r v }
 {
-    sums::minus8(r.a(), low8(v), false).flags
+    sums::minus(r.a(), low8(v), false).flags
 }
 
 // The registers after a repetition, with the flags x.
@@ -43,7 +43,7 @@ fn count(r: Regs, x: Flags, de: u16, hl: u16) -> Regs
 fn move_one(k: u16, r: Regs, v: u32) -> Done
     ensures { result ≡ moved k r v }
 {
-    let old = Flags::of(r.f());
+    let old = Flags::from(r.f());
     let x = Flags {
         s: old.s,
         z: old.z,
@@ -62,7 +62,7 @@ fn move_one(k: u16, r: Regs, v: u32) -> Done
 fn search_one(k: u16, r: Regs, v: u32) -> Done
     ensures { result ≡ searched k r v }
 {
-    let old = Flags::of(r.f());
+    let old = Flags::from(r.f());
     let by = compare(r, v);
     let x = Flags {
         s: by.s,

@@ -1,4 +1,3 @@
 -- The laws of products.
 pub mod Product
-pub mod Address
 pub mod Known

@@ -3,4 +3,4 @@ use Rattle.std.specs.Prelude.{◌≡◌, ℕ}
 use Rattle.products.specs.Products.{mult_of}
 
 abbrev pub P10 : Type 0
-P10 = (f : ℕ) → (mult_of 0x80 0x80 f).value ≡ 0x4000
+P10 = (f : ℕ) → (mult_of 8 0x80 0x80 f).value ≡ 0x4000

@@ -1,10 +1,9 @@
 -- The four multiplies, their flags at any width, and the address that a signed displacement reaches. Lines are those of section 5.6's pages.
-use Rattle.std.specs.Prelude.{ℕ, ◌-◌, ◌*◌, ◌^◌, Bool, false, ◌||◌, ℤ, pos, ◌+ℤ◌, ◌*ℤ◌, neg_ℤ, ◌==◌, int_le, int_lt, nat_le}
+use Rattle.std.specs.Prelude.{ℕ, ◌+◌, ◌-◌, ◌*◌, ◌^◌, Bool, false, ◌||◌, ℤ, pos, ◌+ℤ◌, ◌*ℤ◌, neg_ℤ, ◌==◌, int_le, int_lt, nat_le}
 use Rattle.sums.specs.declared.Flags.{Flags}
-use Rattle.sums.specs.declared.Word.{Word}
+use Rattle.sums.specs.declared.WithF.{WithF}
 use Rattle.sums.specs.Width.{eq_z, signed, wrap}
 use Rattle.sums.specs.Flag.{packed, unpacked}
-use Rattle.products.specs.declared.Long.{Long}
 
 -- a 16 bit address and a signed displacement of 8 bits; addresses wrap at 65,536
 unfoldable pub displaced : ℕ → ℕ → ℕ
@@ -30,15 +29,9 @@ mult_flags k a b = product_flags (int_lt (product k a b) (pos 0)) (eq_z (product
 abbrev pub multu_flags : ℕ → ℕ → ℕ → Flags → Flags
 multu_flags k a b = product_flags false (a * b == 0) (nat_le (2 ^ k) (a * b))
 
--- MULT, line 5052; MULTU, line 5114; MULTUW, line 5176; MULTW, line 5235
-unfoldable pub mult_of : ℕ → ℕ → ℕ → Word
-mult_of a b f = record { value = wrap 16 (product 8 a b); f = packed f (mult_flags 8 a b (unpacked f)) }
+-- MULT, line 5052, and MULTW, line 5235; MULTU, line 5114, and MULTUW, line 5176
+unfoldable pub mult_of : ℕ → ℕ → ℕ → ℕ → WithF ℕ
+mult_of k a b f = record { value = wrap (k + k) (product k a b); f = packed f (mult_flags k a b (unpacked f)) }
 
-unfoldable pub multu_of : ℕ → ℕ → ℕ → Word
-multu_of a b f = record { value = a * b; f = packed f (multu_flags 8 a b (unpacked f)) }
-
-unfoldable pub multuw_of : ℕ → ℕ → ℕ → Long
-multuw_of a b f = record { value = a * b; f = packed f (multu_flags 16 a b (unpacked f)) }
-
-unfoldable pub multw_of : ℕ → ℕ → ℕ → Long
-multw_of a b f = record { value = wrap 32 (product 16 a b); f = packed f (mult_flags 16 a b (unpacked f)) }
+unfoldable pub multu_of : ℕ → ℕ → ℕ → ℕ → WithF ℕ
+multu_of k a b f = record { value = a * b; f = packed f (multu_flags k a b (unpacked f)) }

@@ -3,5 +3,4 @@ pub mod Ints
 pub mod Over
 pub mod Pack
 pub mod Past
-pub mod Extend
 pub mod Known

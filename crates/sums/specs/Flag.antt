@@ -1,9 +1,8 @@
 -- The flag register F: six flags, and bits 5 and 3, which stay. The flags of sums and differences at any width.
 use Rattle.std.specs.Prelude.{ℕ, ◌+◌, ◌*◌, ◌/◌, ◌%◌, Bool, true, false, not, ◌==◌}
 use Rattle.sums.specs.declared.Flags.{Flags}
-use Rattle.sums.specs.declared.Byte.{Byte}
-use Rattle.sums.specs.declared.Wide.{Wide}
-use Rattle.sums.specs.declared.Word.{Word}
+use Rattle.sums.specs.declared.Flagged.{Flagged}
+use Rattle.sums.specs.declared.WithF.{WithF}
 use Rattle.sums.specs.Width.{sign, add_value, add_carry, add_half, add_over, sub_value, sub_carry, sub_half, sub_over}
 
 abbrev pub bit : Bool → ℕ
@@ -27,10 +26,10 @@ unpacked f =
     }
 
 -- a result and its flags over the old f: a byte above F, as A stands above F in AF; a word beside F
-abbrev pub pair_of : ℕ → Byte → ℕ
+abbrev pub pair_of : ℕ → Flagged ℕ → ℕ
 pair_of f x = x.value * 256 + packed f x.flags
 
-abbrev pub word_of : ℕ → Wide → Word
+abbrev pub word_of : {A : Type 0} → ℕ → Flagged A → WithF A
 word_of f x = record { value = x.value; f = packed f x.flags }
 
 -- the flags of a + b + c and of a - b - c
@@ -56,18 +55,12 @@ sub_flags k a b c =
       c = sub_carry k a b c;
     }
 
--- the result and the flags together, at the two widths
-abbrev pub added8 : ℕ → ℕ → ℕ → Byte
-added8 a b c = record { value = add_value 8 a b c; flags = add_flags 8 a b c }
+-- the result and the flags together
+abbrev pub added : ℕ → ℕ → ℕ → ℕ → Flagged ℕ
+added k a b c = record { value = add_value k a b c; flags = add_flags k a b c }
 
-abbrev pub added16 : ℕ → ℕ → ℕ → Wide
-added16 a b c = record { value = add_value 16 a b c; flags = add_flags 16 a b c }
-
-abbrev pub subbed8 : ℕ → ℕ → ℕ → Byte
-subbed8 a b c = record { value = sub_value 8 a b c; flags = sub_flags 8 a b c }
-
-abbrev pub subbed16 : ℕ → ℕ → ℕ → Wide
-subbed16 a b c = record { value = sub_value 16 a b c; flags = sub_flags 16 a b c }
+abbrev pub subbed : ℕ → ℕ → ℕ → ℕ → Flagged ℕ
+subbed k a b c = record { value = sub_value k a b c; flags = sub_flags k a b c }
 
 -- flags that an instruction keeps: C alone; S, Z and V
 abbrev pub keep_c : Flags → Flags → Flags

@@ -1,7 +1,7 @@
 -- Known steps P4 to P8 of document 01, over every old F.
 use Rattle.std.specs.Prelude.{◌≡◌, ℕ, true, false}
 use Rattle.sums.specs.declared.Flags.{Flags}
-use Rattle.sums.specs.declared.Word.{Word}
+use Rattle.sums.specs.declared.WithF.{WithF}
 use Rattle.sums.specs.Flag.{packed}
 use Rattle.sums.specs.Sums.{cpw_of, negw_of}
 
@@ -15,7 +15,7 @@ hvn = record { s = false; z = false; h = true; v = true; n = true; c = false }
 abbrev shnc : Flags
 shnc = record { s = true; z = false; h = true; v = false; n = true; c = true }
 
-abbrev word : ℕ → ℕ → Flags → Word
+abbrev word : ℕ → ℕ → Flags → WithF ℕ
 word f n x = record { value = n; f = packed f x }
 
 abbrev pub P4 : Type 0

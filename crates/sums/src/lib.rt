@@ -1,10 +1,11 @@
 // Sums and differences of bytes and words, and the flag register F.
 // A byte operation answers its result above F, as A stands above F in AF.
-#![tactic(auto)]
+#![tactic(auto, unfolding(crate::specs::Sums::add_of, crate::specs::Sums::adc_of, crate::specs::Sums::sub_of, crate::specs::Sums::sbc_of, crate::specs::Sums::cp_of, crate::specs::Sums::inc_of, crate::specs::Sums::dec_of, crate::specs::Sums::neg_of, crate::specs::Sums::add_hl_of, crate::specs::Sums::add_a_of, crate::specs::Sums::adcw_of, crate::specs::Sums::sbcw_of, crate::specs::Sums::addw_of, crate::specs::Sums::subw_of, crate::specs::Sums::cpw_of, crate::specs::Sums::negw_of))]
 
-ghost use Rattle.std.specs.Prelude.{◌≡◌, ◌+◌, ◌*◌, ◌/◌, ◌%◌, ◌<◌, ◌≤◌};
+ghost use Rattle.std.specs.Prelude.{◌≡◌, ℕ, ◌-◌, ◌^◌, ◌+◌, ◌*◌, ◌/◌, ◌%◌, ◌<◌, ◌≤◌};
+ghost use Rattle.std.proofs.Common.{rules};
 ghost use Rattle.sums.specs.Width.{add_value, sub_value, extended};
-ghost use Rattle.sums.specs.Flag.{bit, packed, unpacked, pair_of, word_of, added8, added16, subbed8, subbed16};
+ghost use Rattle.sums.specs.Flag.{bit, packed, unpacked, pair_of, word_of, add_flags, sub_flags, neg_flags};
 ghost use Rattle.sums.specs.Sums.{add_of, adc_of, sub_of, sbc_of, cp_of, inc_of, dec_of, neg_of, add_hl_of, add_a_of, adcw_of, sbcw_of, addw_of, subw_of, cpw_of, negw_of};
 
 #[derive(Clone, Copy)]
@@ -17,32 +18,113 @@ pub struct Flags {
     pub c: bool,
 }
 
-// A byte, and the flags that go with it.
+// A value, and the flags that go with it.
 #[derive(Clone, Copy)]
-pub struct Byte {
-    pub value: u8,
+pub struct Flagged<T> {
+    pub value: T,
     pub flags: Flags,
 }
 
-// A word, and the flags that go with it.
+// A value, and F.
 #[derive(Clone, Copy)]
-pub struct Wide {
-    pub value: u16,
-    pub flags: Flags,
-}
-
-// A word, and F.
-#[derive(Clone, Copy)]
-pub struct Word {
-    pub value: u16,
+pub struct WithF<T> {
+    pub value: T,
     pub f: u8,
 }
 
-// 1 where b is true, else 0.
-pub fn num(b: bool) -> u8
-    ensures { (result ≡ bit b) × (result ≤ 1) }
-{
-    if b { 1 } else { 0 }
+// A byte or a word, an unsigned number of k bits. Two are added in 32 bits, where the sum does not wrap.
+pub trait Operand: Copy {
+    ghost k: { ℕ };
+
+    ghost number: { Self → ℕ };
+
+    ghost SIZE: { ℕ };
+
+    ghost TOP: { ℕ };
+
+    ghost HALF: { ℕ };
+
+    // 2 ^ k; the top bit; the bit that a half carry goes into.
+    const SIZE: u32;
+
+    const TOP: u32;
+
+    const HALF: u32;
+
+    fn wide(self) -> u32
+        ensures { (result ≡ number self) × (result < 2 ^ k) };
+
+    fn narrow(n: u32) -> Self
+        requires { n < 2 ^ k }
+        ensures { number result ≡ n };
+
+    ghost weights: { (SIZE ≡ 2 ^ k) × (TOP ≡ 2 ^ (k - 1)) × (HALF ≡ 2 ^ (k - 4)) };
+
+    ghost short: { (0 < k) × (2 ^ k ≤ 65536) };
+}
+
+impl Operand for u8 {
+    ghost k = { 8 };
+
+    ghost number = { λ n. n };
+
+    ghost SIZE = { 256 };
+
+    ghost TOP = { 128 };
+
+    ghost HALF = { 16 };
+
+    ghost weights = { Prim.search rules };
+
+    ghost short = { Prim.search rules };
+
+    const SIZE: u32 = 256;
+
+    const TOP: u32 = 128;
+
+    const HALF: u32 = 16;
+
+    #[inline(always)]
+    fn wide(self) -> u32 {
+        u32::from(self)
+    }
+
+    #[inline(always)]
+    fn narrow(n: u32) -> u8 {
+        n as u8
+    }
+}
+
+impl Operand for u16 {
+    ghost k = { 16 };
+
+    ghost number = { λ n. n };
+
+    ghost SIZE = { 65536 };
+
+    ghost TOP = { 32768 };
+
+    ghost HALF = { 4096 };
+
+    ghost weights = { Prim.search rules };
+
+    ghost short = { Prim.search rules };
+
+    const SIZE: u32 = 65536;
+
+    const TOP: u32 = 32768;
+
+    const HALF: u32 = 4096;
+
+    #[inline(always)]
+    fn wide(self) -> u32 {
+        u32::from(self)
+    }
+
+    #[inline(always)]
+    fn narrow(n: u32) -> u16 {
+        n as u16
+    }
 }
 
 impl Flags {
@@ -50,19 +132,21 @@ impl Flags {
     pub fn over(self, f: u8) -> u8
         ensures { result ≡ packed f self }
     {
-        num(self.s) * 128
-            + num(self.z) * 64
+        u8::from(self.s) * 128
+            + u8::from(self.z) * 64
             + f / 32 % 2 * 32
-            + num(self.h) * 16
+            + u8::from(self.h) * 16
             + f / 8 % 2 * 8
-            + num(self.v) * 4
-            + num(self.n) * 2
-            + num(self.c)
+            + u8::from(self.v) * 4
+            + u8::from(self.n) * 2
+            + u8::from(self.c)
     }
+}
 
-    pub fn of(f: u8) -> Flags
-        ensures { result ≡ unpacked f }
-    {
+impl From<u8> for Flags {
+    ghost from_gives = { λ f x. x ≡ unpacked f };
+
+    fn from(f: u8) -> Flags {
         Flags {
             s: f / 128 % 2 == 1,
             z: f / 64 % 2 == 1,
@@ -74,102 +158,67 @@ impl Flags {
     }
 }
 
-impl Byte {
-    // The byte above its flags, which go over the old F.
-    pub fn with_f(self, f: u8) -> u16
-        ensures { result ≡ pair_of f self }
-    {
-        let x = self.flags;
-        self.value as u16 * 256 + x.over(f) as u16
-    }
-}
-
-impl Wide {
-    pub fn with_f(self, f: u8) -> Word
+impl<T> Flagged<T> {
+    // The value beside its flags, which go over the old F.
+    pub fn with_f(self, f: u8) -> WithF<T>
         ensures { result ≡ word_of f self }
     {
-        let x = self.flags;
-        Word {
+        WithF {
             value: self.value,
-            f: x.over(f),
+            f: self.flags.over(f),
         }
     }
 }
 
-// a + b and a carry. V: the operands have one sign and the result has the other.
-pub fn plus8(a: u8, b: u8, carry: bool) -> Byte
-    ensures { result ≡ added8 a b (bit carry) }
-{
-    let c = num(carry);
-    let t = a as u16 + b as u16 + c as u16;
-    let r = (t % 256) as u8;
-    Byte {
-        value: r,
-        flags: Flags {
-            s: 128 <= r,
-            z: r == 0,
-            h: 16 <= a % 16 + b % 16 + c,
-            v: ((128 <= a) == (128 <= b)) & ((128 <= a) != (128 <= r)),
-            n: false,
-            c: 256 <= t,
-        },
+impl Flagged<u8> {
+    // The byte above its flags, which go over the old F.
+    pub fn above_f(self, f: u8) -> u16
+        ensures { result ≡ pair_of f self }
+    {
+        self.value as u16 * 256 + self.flags.over(f) as u16
     }
 }
 
-pub fn plus16(a: u16, b: u16, carry: bool) -> Wide
-    ensures { result ≡ added16 a b (bit carry) }
+// a + b and a carry. V: the operands have one sign and the result has the other.
+#[inline]
+pub fn plus<T: Operand>(a: T, b: T, carry: bool) -> Flagged<T>
+    ensures value { T.number result.value ≡ add_value T.k (T.number a) (T.number b) (bit carry) }
+    ensures flags { result.flags ≡ add_flags T.k (T.number a) (T.number b) (bit carry) }
 {
-    let c = num(carry) as u16;
-    let t = a as u32 + b as u32 + c as u32;
-    let r = (t % 65536) as u16;
-    Wide {
-        value: r,
+    let (x, y, c) = (a.wide(), b.wide(), u32::from(carry));
+    let t = x + y + c;
+    let r = t % T::SIZE;
+    Flagged {
+        value: T::narrow(r),
         flags: Flags {
-            s: 32768 <= r,
+            s: T::TOP <= r,
             z: r == 0,
-            h: 4096 <= a % 4096 + b % 4096 + c,
-            v: ((32768 <= a) == (32768 <= b)) & ((32768 <= a) != (32768 <= r)),
+            h: T::HALF <= x % T::HALF + y % T::HALF + c,
+            v: ((T::TOP <= x) == (T::TOP <= y)) & ((T::TOP <= x) != (T::TOP <= r)),
             n: false,
-            c: 65536 <= t,
+            c: T::SIZE <= t,
         },
     }
 }
 
 // a - b and a borrow. V: the operands have different signs and the result has that of b.
-pub fn minus8(a: u8, b: u8, carry: bool) -> Byte
-    ensures { result ≡ subbed8 a b (bit carry) }
+#[inline]
+pub fn minus<T: Operand>(a: T, b: T, carry: bool) -> Flagged<T>
+    ensures value { T.number result.value ≡ sub_value T.k (T.number a) (T.number b) (bit carry) }
+    ensures flags { result.flags ≡ sub_flags T.k (T.number a) (T.number b) (bit carry) }
 {
-    let c = num(carry);
-    let t = a as u16 + 256 - b as u16 - c as u16;
-    let r = (t % 256) as u8;
-    Byte {
-        value: r,
+    let (x, y, c) = (a.wide(), b.wide(), u32::from(carry));
+    let t = x + T::SIZE - y - c;
+    let r = t % T::SIZE;
+    Flagged {
+        value: T::narrow(r),
         flags: Flags {
-            s: 128 <= r,
+            s: T::TOP <= r,
             z: r == 0,
-            h: a % 16 < b % 16 + c,
-            v: ((128 <= r) == (128 <= b)) & ((128 <= r) != (128 <= a)),
+            h: x % T::HALF < y % T::HALF + c,
+            v: ((T::TOP <= r) == (T::TOP <= y)) & ((T::TOP <= r) != (T::TOP <= x)),
             n: true,
-            c: t < 256,
-        },
-    }
-}
-
-pub fn minus16(a: u16, b: u16, carry: bool) -> Wide
-    ensures { result ≡ subbed16 a b (bit carry) }
-{
-    let c = num(carry) as u16;
-    let t = a as u32 + 65536 - b as u32 - c as u32;
-    let r = (t % 65536) as u16;
-    Wide {
-        value: r,
-        flags: Flags {
-            s: 32768 <= r,
-            z: r == 0,
-            h: a % 4096 < b % 4096 + c,
-            v: ((32768 <= r) == (32768 <= b)) & ((32768 <= r) != (32768 <= a)),
-            n: true,
-            c: t < 65536,
+            c: t < T::SIZE,
         },
     }
 }
@@ -177,70 +226,77 @@ pub fn minus16(a: u16, b: u16, carry: bool) -> Wide
 pub fn add8(a: u8, b: u8, f: u8) -> u16
     ensures { result ≡ add_of a b f }
 {
-    plus8(a, b, false).with_f(f)
+    plus(a, b, false).above_f(f)
 }
 
 pub fn adc8(a: u8, b: u8, f: u8) -> u16
     ensures { result ≡ adc_of a b f }
 {
-    plus8(a, b, Flags::of(f).c).with_f(f)
+    plus(a, b, Flags::from(f).c).above_f(f)
 }
 
 pub fn sub8(a: u8, b: u8, f: u8) -> u16
     ensures { result ≡ sub_of a b f }
 {
-    minus8(a, b, false).with_f(f)
+    minus(a, b, false).above_f(f)
 }
 
 pub fn sbc8(a: u8, b: u8, f: u8) -> u16
     ensures { result ≡ sbc_of a b f }
 {
-    minus8(a, b, Flags::of(f).c).with_f(f)
+    minus(a, b, Flags::from(f).c).above_f(f)
 }
 
 pub fn cp8(a: u8, b: u8, f: u8) -> u16
     ensures { result ≡ cp_of a b f }
 {
-    let mut x = minus8(a, b, false);
+    let mut x = minus(a, b, false);
     x.value = a;
-    x.with_f(f)
+    x.above_f(f)
 }
 
 pub fn inc8(a: u8, f: u8) -> u16
     ensures { result ≡ inc_of a f }
 {
-    let old = Flags::of(f);
-    let mut x = plus8(a, 1, false);
+    let old = Flags::from(f);
+    let mut x = plus(a, 1, false);
     x.flags.c = old.c;
-    x.with_f(f)
+    x.above_f(f)
 }
 
 pub fn dec8(a: u8, f: u8) -> u16
     ensures { result ≡ dec_of a f }
 {
-    let old = Flags::of(f);
-    let mut x = minus8(a, 1, false);
+    let old = Flags::from(f);
+    let mut x = minus(a, 1, false);
     x.flags.c = old.c;
-    x.with_f(f)
+    x.above_f(f)
+}
+
+// 0 - a, with the V that its page gives. C: the operand was not 0.
+fn negated<T: Operand>(a: T, v: bool) -> Flagged<T>
+    ensures value { T.number result.value ≡ sub_value T.k 0 (T.number a) 0 }
+    ensures flags { result.flags ≡ neg_flags T.k v (T.number a) }
+{
+    let mut x = minus(T::narrow(0), a, false);
+    x.flags.v = v;
+    x.flags.c = a.wide() != 0;
+    x
 }
 
 pub fn neg8(a: u8, f: u8) -> u16
     ensures { result ≡ neg_of a f }
 {
     let v = a != 0x80;
-    let c = a != 0;
-    let mut x = minus8(0, a, false);
-    x.flags.v = v;
-    x.flags.c = c;
-    x.with_f(f)
+    negated(a, v).above_f(f)
 }
 
 // ADD of a pair to HL, IX or IY.
-pub fn add_hl(a: u16, b: u16, f: u8) -> Word
+pub fn add_hl(a: u16, b: u16, f: u8) -> WithF<u16>
     ensures { result ≡ add_hl_of a b f }
 {
-    let old = Flags::of(f);
-    let mut x = plus16(a, b, false);
+    let old = Flags::from(f);
+    let mut x = plus(a, b, false);
     x.flags.s = old.s;
     x.flags.z = old.z;
     x.flags.v = old.v;
@@ -248,78 +304,72 @@ pub fn add_hl(a: u16, b: u16, f: u8) -> Word
 }
 
 // ADD of the accumulator b to HL, IX or IY.
-pub fn add_a(a: u16, b: u8, f: u8) -> Word
+pub fn add_a(a: u16, b: u8, f: u8) -> WithF<u16>
     ensures { result ≡ add_a_of a b f }
 {
-    plus16(a, exts8(b), false).with_f(f)
+    plus(a, exts8(b), false).with_f(f)
 }
 
-pub fn adc16(a: u16, b: u16, f: u8) -> Word
+pub fn adc16(a: u16, b: u16, f: u8) -> WithF<u16>
     ensures { result ≡ adcw_of a b f }
 {
-    plus16(a, b, Flags::of(f).c).with_f(f)
+    plus(a, b, Flags::from(f).c).with_f(f)
 }
 
-pub fn sbc16(a: u16, b: u16, f: u8) -> Word
+pub fn sbc16(a: u16, b: u16, f: u8) -> WithF<u16>
     ensures { result ≡ sbcw_of a b f }
 {
-    minus16(a, b, Flags::of(f).c).with_f(f)
+    minus(a, b, Flags::from(f).c).with_f(f)
 }
 
-pub fn addw(a: u16, b: u16, f: u8) -> Word
+pub fn addw(a: u16, b: u16, f: u8) -> WithF<u16>
     ensures { result ≡ addw_of a b f }
 {
-    plus16(a, b, false).with_f(f)
+    plus(a, b, false).with_f(f)
 }
 
-pub fn subw(a: u16, b: u16, f: u8) -> Word
+pub fn subw(a: u16, b: u16, f: u8) -> WithF<u16>
     ensures { result ≡ subw_of a b f }
 {
-    minus16(a, b, false).with_f(f)
+    minus(a, b, false).with_f(f)
 }
 
 pub fn cpw(a: u16, b: u16, f: u8) -> u8
     ensures { result ≡ cpw_of a b f }
 {
-    minus16(a, b, false).flags.over(f)
+    minus(a, b, false).flags.over(f)
 }
 
 // NEG HL.
-pub fn negw(a: u16, f: u8) -> Word
+pub fn negw(a: u16, f: u8) -> WithF<u16>
     ensures { result ≡ negw_of a f }
 {
     let v = a == 0x8000;
-    let c = a != 0;
-    let mut x = minus16(0, a, false);
-    x.flags.v = v;
-    x.flags.c = c;
-    x.with_f(f)
+    negated(a, v).with_f(f)
 }
 
 pub fn incw(a: u16) -> u16
     ensures { result ≡ add_value 16 a 1 0 }
 {
-    std::num::wrapping_add_u16(a, 1)
+    a.wrapping_add(1)
 }
 
 pub fn decw(a: u16) -> u16
     ensures { result ≡ sub_value 16 a 1 0 }
 {
-    std::num::wrapping_sub_u16(a, 1)
+    a.wrapping_sub(1)
 }
 
 // EXTS A: the answer is HL.
 pub fn exts8(a: u8) -> u16
     ensures { result ≡ extended 8 a }
 {
-    let w = a as u16;
-    if w < 128 { w } else { w + 65280 }
+    i16::from(a.cast_signed()).cast_unsigned()
 }
 
 // EXTS HL: the answer is DE above HL.
 pub fn exts16(a: u16) -> u32
     ensures { result ≡ extended 16 a }
 {
-    let w = a as u32;
-    if w < 32768 { w } else { w + 4294901760 }
+    i32::from(a.cast_signed()).cast_unsigned()
 }

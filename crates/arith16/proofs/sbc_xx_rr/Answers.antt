@@ -1,7 +1,0 @@
--- `arith16::sbc_xx_rr` meets its contract.
-use Rattle.arith16.specs.Arith16.{sbc_xx_rr}
-use Rattle.arith16.proofs.sbc_xx_rr.Goals as goal
-
-pub returns : goal.returns
-unfolding sbc_xx_rr
-returns c = simp (← c.put_xx.ensures, ← c.sbc16.ensures, ← c.f.ensures, ← c.field.ensures, ← c.index.ensures)
