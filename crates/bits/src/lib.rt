@@ -1,5 +1,5 @@
 // BIT, RES, SET, TSET, rotates and shifts of a register or of a byte in memory.
-#![tactic(auto)]
+#![tactic(auto, unfolding(crate::specs::Bits::bit_r, crate::specs::Bits::bit_m, crate::specs::Bits::res_r, crate::specs::Bits::res_m, crate::specs::Bits::rot_r, crate::specs::Bits::rot_m, crate::specs::Bits::rot_a, crate::specs::Bits::set_r, crate::specs::Bits::set_m, crate::specs::Bits::tset_r, crate::specs::Bits::tset_m))]
 
 ghost use Rattle.std.specs.Prelude.{◌≡◌};
 ghost use Rattle.bits.specs.Bits.{held, bit_r, bit_m, res_r, res_m, rot_r, rot_m, rot_a, set_r, set_m, tset_r, tset_m};

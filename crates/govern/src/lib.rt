@@ -1,5 +1,5 @@
 // The privileged instructions that change control registers or the user stack pointer.
-#![tactic(auto)]
+#![tactic(auto, unfolding(crate::specs::Govern::disabled, crate::specs::Govern::enabled, crate::specs::Govern::di_of, crate::specs::Govern::ei_of, crate::specs::Govern::di_n, crate::specs::Govern::ei_n, crate::specs::Govern::control_at, crate::specs::Govern::put_control_at, crate::specs::Govern::ldctl_xx_c, crate::specs::Govern::ldctl_c_xx, crate::specs::Govern::ldctl_usp, crate::specs::Govern::retil_of, crate::specs::Govern::governing_by, crate::specs::Govern::govern_of))]
 
 ghost use Rattle.std.specs.Prelude.{◌≡◌};
 ghost use Rattle.govern.specs.Govern.{ending, masked, disabled, enabled, di_of, ei_of, di_n, ei_n, control_at, put_control_at, ldctl_xx_c, ldctl_c_xx, ldctl_usp, retil_of, govern_of};

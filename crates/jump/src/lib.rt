@@ -1,5 +1,5 @@
 // Program control and NOP: jumps, calls, returns and the carry flag. PC is past the instruction already.
-#![tactic(auto)]
+#![tactic(auto, unfolding(crate::specs::Jump::jumping, crate::specs::Jump::calling, crate::specs::Jump::popping, crate::specs::Jump::call_of, crate::specs::Jump::call_cc, crate::specs::Jump::ccf_of, crate::specs::Jump::djnz_of, crate::specs::Jump::jaf_of, crate::specs::Jump::jar_of, crate::specs::Jump::jp_of, crate::specs::Jump::jp_cc, crate::specs::Jump::jp_xx, crate::specs::Jump::jr_of, crate::specs::Jump::jr_cc, crate::specs::Jump::ret_of, crate::specs::Jump::ret_cc, crate::specs::Jump::rst_of, crate::specs::Jump::scf_of, crate::specs::Jump::nop_of))]
 
 ghost use Rattle.std.specs.Prelude.{◌≡◌};
 ghost use Rattle.jump.specs.Jump.{relative, jumping, calling, popping, call_of, call_cc, ccf_of, djnz_of, jaf_of, jar_of, jp_of, jp_cc, jp_xx, jr_of, jr_cc, ret_of, ret_cc, rst_of, scf_of, nop_of};

@@ -1,5 +1,5 @@
 // The 8 bit load group: what each instruction makes of the registers, whose PC is past it already, and of its operand.
-#![tactic(auto)]
+#![tactic(auto, unfolding(crate::specs::Load8::ex_a_r, crate::specs::Load8::ex_a_m, crate::specs::Load8::ex_h_l, crate::specs::Load8::ld_a_m, crate::specs::Load8::ld_m_a, crate::specs::Load8::ld_r_n, crate::specs::Load8::ld_m_n, crate::specs::Load8::ld_r_r, crate::specs::Load8::ld_r_m, crate::specs::Load8::ld_m_r))]
 
 ghost use Rattle.std.specs.Prelude.{◌≡◌};
 ghost use Rattle.load8.specs.Load8.{ex_a_r, ex_a_m, ex_h_l, ld_a_m, ld_m_a, ld_r_n, ld_m_n, ld_r_r, ld_r_m, ld_m_r};
