@@ -13,6 +13,7 @@ mod ed;
 mod fd;
 mod fd_cb;
 mod fd_ed;
+pub mod mode;
 mod none;
 pub mod op;
 

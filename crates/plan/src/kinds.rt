@@ -2,6 +2,7 @@
 ghost use Rattle.std.specs.Prelude.{◌≡◌};
 ghost use Rattle.plan.specs.Kinds.{quiet, stores, stores_word, plus, byte, word, immediate_of};
 
+use decode::mode;
 use regs::{Control, Regs};
 
 // Events 3 to 9 of document 01, with what each carries.
@@ -104,7 +105,7 @@ pub fn storing_word(r: Regs, s: Spot, v: u16) -> Done
 pub fn plus16(a: u16, b: u16) -> u16
     ensures { result ≡ plus a b }
 {
-    std::num::wrapping_add_u16(a, b)
+    a.wrapping_add(b)
 }
 
 pub fn low8(v: u32) -> u8
@@ -123,17 +124,16 @@ pub fn low16(v: u32) -> u16
 pub fn immediate(i: Ins) -> u32
     ensures { result ≡ immediate_of i }
 {
-    let mode = i.mode;
-    match mode {
-        0 => i.arg,
-        1 => i.arg,
-        2 => i.arg / 65536,
-        3 => i.arg / 256,
-        4 => i.arg / 65536,
-        5 => i.arg / 65536,
-        6 => i.arg / 65536,
-        7 => i.arg / 65536,
-        8 => i.arg / 65536,
+    match i.mode {
+        mode::NO => i.arg,
+        mode::IR => i.arg,
+        mode::DA => i.arg / 65536,
+        mode::SX => i.arg / 256,
+        mode::X_IX => i.arg / 65536,
+        mode::X_IY => i.arg / 65536,
+        mode::X_HL => i.arg / 65536,
+        mode::RA => i.arg / 65536,
+        mode::SR => i.arg / 65536,
         _ => i.arg,
     }
 }

@@ -3,6 +3,7 @@ ghost use Rattle.std.specs.Prelude.{◌≡◌};
 ghost use Rattle.plan.specs.Places.{data_at, code_at, met, returning, spot_of};
 
 use crate::kinds::{Ins, Spot, low8, low16, plus16};
+use decode::mode;
 use regs::Regs;
 
 pub fn data_at(n: u8, a: u16) -> Spot
@@ -46,25 +47,24 @@ fn return_spot(u: bool, r: Regs, i: Ins) -> Spot
 pub fn spot_of(u: bool, r: Regs, i: Ins) -> Spot
     ensures { result ≡ spot_of u r i }
 {
-    let mode = i.mode;
     let n = i.reads;
-    match mode {
-        0 => data_at(n, 0),
-        1 => data_at(n, r.hl),
-        2 => data_at(n, low16(i.arg)),
-        3 => data_at(n, products::displace(r.index(i.opening), low8(i.arg))),
-        4 => data_at(n, plus16(r.ix, low16(i.arg))),
-        5 => data_at(n, plus16(r.iy, low16(i.arg))),
-        6 => data_at(n, plus16(r.hl, low16(i.arg))),
-        7 => code_at(n, plus16(i.next, low16(i.arg))),
-        8 => data_at(n, plus16(r.sp(u), low16(i.arg))),
-        9 => data_at(n, plus16(r.hl, r.ix)),
-        10 => data_at(n, plus16(r.hl, r.iy)),
-        11 => data_at(n, plus16(r.ix, r.iy)),
-        12 => data_at(n, r.bc),
-        13 => data_at(n, r.de),
-        14 => data_at(n, r.sp(u)),
-        15 => return_spot(u, r, i),
+    match i.mode {
+        mode::NO => data_at(n, 0),
+        mode::IR => data_at(n, r.hl),
+        mode::DA => data_at(n, low16(i.arg)),
+        mode::SX => data_at(n, products::displace(r.index(i.opening), low8(i.arg))),
+        mode::X_IX => data_at(n, plus16(r.ix, low16(i.arg))),
+        mode::X_IY => data_at(n, plus16(r.iy, low16(i.arg))),
+        mode::X_HL => data_at(n, plus16(r.hl, low16(i.arg))),
+        mode::RA => code_at(n, plus16(i.next, low16(i.arg))),
+        mode::SR => data_at(n, plus16(r.sp(u), low16(i.arg))),
+        mode::BX_HL_IX => data_at(n, plus16(r.hl, r.ix)),
+        mode::BX_HL_IY => data_at(n, plus16(r.hl, r.iy)),
+        mode::BX_IX_IY => data_at(n, plus16(r.ix, r.iy)),
+        mode::AT_BC => data_at(n, r.bc),
+        mode::AT_DE => data_at(n, r.de),
+        mode::AT_SP => data_at(n, r.sp(u)),
+        mode::AT_SP_CC => return_spot(u, r, i),
         _ => data_at(n, 0),
     }
 }
