@@ -1,6 +1,6 @@
 // The machine record (document 01): registers, control registers, the memory unit's control word and descriptors. AF to HL always
 // mean the bank in use; the alternates end in 2.
-#![tactic(auto)]
+#![tactic(auto, unfolding(crate::specs::Select::index_of, crate::specs::Select::put_index, crate::specs::Select::byte_of, crate::specs::Select::put_byte, crate::specs::Select::sp_of, crate::specs::Select::put_sp, crate::specs::Select::pair_of, crate::specs::Select::put_pair, crate::specs::Select::stacked_of, crate::specs::Select::put_stacked, crate::specs::Select::condition_of))]
 
 pub mod change;
 pub mod govern;
