@@ -83,13 +83,18 @@ pub fn aluw_m(r: Regs, i: Ins, v: u32) -> Done
 pub fn decw_rr(r: Regs, u: bool, i: Ins) -> Done
     ensures { result ≡ decw_rr r u i }
 {
-    still(r.put_pair(u, i.opening, i.code / 16 % 4, sums::decw(field(r, u, i))))
+    still(r.put_pair(
+        u,
+        i.opening,
+        i.code / 16 % 4,
+        field(r, u, i).wrapping_sub(1),
+    ))
 }
 
 pub fn decw_m(r: Regs, s: Spot, v: u32) -> Done
     ensures { result ≡ decw_m r s v }
 {
-    storing_word(r, s, sums::decw(low16(v)))
+    storing_word(r, s, low16(v).wrapping_sub(1))
 }
 
 // DE the high half, HL the low.
@@ -108,13 +113,18 @@ pub fn exts_hl(r: Regs) -> Done
 pub fn incw_rr(r: Regs, u: bool, i: Ins) -> Done
     ensures { result ≡ incw_rr r u i }
 {
-    still(r.put_pair(u, i.opening, i.code / 16 % 4, sums::incw(field(r, u, i))))
+    still(r.put_pair(
+        u,
+        i.opening,
+        i.code / 16 % 4,
+        field(r, u, i).wrapping_add(1),
+    ))
 }
 
 pub fn incw_m(r: Regs, s: Spot, v: u32) -> Done
     ensures { result ≡ incw_m r s v }
 {
-    storing_word(r, s, sums::incw(low16(v)))
+    storing_word(r, s, low16(v).wrapping_add(1))
 }
 
 fn put_product(r: Regs, x: WithF<u32>) -> Done

@@ -48,7 +48,8 @@ pub fn xor8(a: u8, b: u8, f: u8) -> u16
     with_result(a ^ b, false, false).above_f(f)
 }
 
-// The eight operations on the accumulator, by bits 5 to 3 of the operation code.
+// The eight operations on the accumulator, by bits 5 to 3 of the operation code. They stay a number: making an enum of it would be
+// this match once more.
 pub fn alu(k: u8, a: u8, b: u8, f: u8) -> u16
     ensures { result ≡ alu_of k a b f }
 {

@@ -223,6 +223,7 @@ pub fn minus<T: Operand>(a: T, b: T, carry: bool) -> Flagged<T>
     }
 }
 
+// The operations of bytes and of words stay apart: each is one call, and the answer is AF for a byte and a word beside F for a word.
 pub fn add8(a: u8, b: u8, f: u8) -> u16
     ensures { result ≡ add_of a b f }
 {
@@ -348,19 +349,7 @@ pub fn negw(a: u16, f: u8) -> WithF<u16>
     negated(a, v).with_f(f)
 }
 
-pub fn incw(a: u16) -> u16
-    ensures { result ≡ add_value 16 a 1 0 }
-{
-    a.wrapping_add(1)
-}
-
-pub fn decw(a: u16) -> u16
-    ensures { result ≡ sub_value 16 a 1 0 }
-{
-    a.wrapping_sub(1)
-}
-
-// EXTS A: the answer is HL.
+// EXTS A: the answer is HL. Each of the two is one conversion of the library's, which a generic one would need a trait for.
 pub fn exts8(a: u8) -> u16
     ensures { result ≡ extended 8 a }
 {
