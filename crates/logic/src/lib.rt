@@ -127,6 +127,7 @@ fn test_and_set(a: u8, old: Flags) -> Flagged<u8>
     }
 }
 
+// The rotates and shifts and TSET, by a number as in alu.
 fn turn(k: u8, a: u8, old: Flags) -> Flagged<u8>
     ensures { result ≡ turn_of k a old }
 {
@@ -174,22 +175,16 @@ pub fn bit_test(n: u8, a: u8, f: u8) -> u8
     x.over(f)
 }
 
-fn pow2(n: u8) -> u8
-    ensures { (result ≡ 2 ^ (n % 8)) × (result ≤ 128) }
-{
-    1 << (n % 8)
-}
-
 // RES: the bit n % 8.
 pub fn res(n: u8, a: u8) -> u8
     ensures { result ≡ res_of n a }
 {
-    a & (255 - pow2(n))
+    a & !(1 << (n % 8))
 }
 
 // SET: the bit n % 8.
 pub fn set(n: u8, a: u8) -> u8
     ensures { result ≡ set_of n a }
 {
-    a | pow2(n)
+    a | 1 << (n % 8)
 }
