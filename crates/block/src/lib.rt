@@ -92,6 +92,7 @@ fn stay(again: bool, r: Regs, i: Ins) -> Regs
     r
 }
 
+// One function for each of the manual's pages, of which each is one call: the steps that two of them share are above.
 pub fn cpd(r: Regs, v: u32) -> Done
     ensures { result ≡ cpd r v }
 {
