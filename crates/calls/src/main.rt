@@ -2,89 +2,40 @@
 // standard input has them, as `cases::script` reads them. STEP, RUN, DELIVER and VALID are the calls, over BYTES bytes of memory.
 #![tactic(auto)]
 
-use cases::item::Item;
-use cases::{cells, item, machines, script};
+use cases::cells::Cells;
+use cases::{calls, script};
 
-fn step(x: &mut [u16; 100], w: &mut [u8]) {
-    let m = machines::machine(*x);
-    let a = host::step(m, w);
+fn step(x: &mut Cells, w: &mut [u8]) {
+    let a = host::step(x.machine(), w);
     let next = a.machine;
     let e = a.event;
-    machines::put_answer(x, a.refusal, next);
-    machines::put_event(x, e);
+    x.put_answer(a.refusal, next);
+    x.put_event(e);
 }
 
-fn run(x: &mut [u16; 100], w: &mut [u8]) {
-    let m = machines::machine(*x);
-    let a = host::run(m, w, x[cells::STEPS]);
+fn run(x: &mut Cells, w: &mut [u8]) {
+    let a = host::run(x.machine(), w, x.steps);
     let next = a.machine;
     let e = a.event;
-    machines::put_answer(x, a.refusal, next);
-    machines::put_event(x, e);
-    x[cells::STEPS] = a.steps;
+    x.put_answer(a.refusal, next);
+    x.put_event(e);
+    x.steps = a.steps;
 }
 
-fn deliver(x: &mut [u16; 100], w: &mut [u8]) {
-    let m = machines::machine(*x);
-    let e = machines::event(x[cells::EVENT], x[cells::FIRST], x[cells::SECOND]);
-    let a = deliver::deliver(m, w, e);
-    let next = a.machine;
-    machines::put_answer(x, a.refusal, next);
-}
-
-fn make_valid(x: &mut [u16; 100]) {
-    let m = machines::machine(*x);
-    let a = valid::make_valid(m, (x[cells::N] % 256) as u8);
-    let next = a.machine;
-    machines::put_answer(x, a.refusal, next);
-}
-
-// STEP, RUN, DELIVER, VALID.
-fn call(name: u64, x: &mut [u16; 100], w: &mut [u8]) {
+fn call(name: &[u8], x: &mut Cells, w: &mut [u8]) -> bool {
     match name {
-        0x53544550 => step(x, w),
-        0x52554E => run(x, w),
-        0x44454C49564552 => deliver(x, w),
-        0x56414C4944 => make_valid(x),
-        _ => script::unread(x, name),
+        b"STEP" => step(x, w),
+        b"RUN" => run(x, w),
+        b"DELIVER" => calls::deliver(x, w),
+        b"VALID" => calls::make_valid(x),
+        _ => return false,
     }
-}
-
-fn call_with(name: u64, x: &mut [u16; 100], w: &mut [u8]) {
-    let n = cells::value(x, cells::BYTES_PLACE) as usize;
-    // Stays where no call is made.
-    x[cells::REFUSAL] = 0xFFFF;
-    if n <= w.len() {
-        call(name, x, &mut w[0..n]);
-    }
-}
-
-fn take(i: Item, x: &mut [u16; 100], w: &mut [u8; 69632], b: u8) -> Item {
-    if script::is_call(i, b) {
-        call_with(i.name, x, w);
-    }
-    let next = script::take(i, x, w, b);
-    if b == b'\n' {
-        *w = [0; 69632];
-    }
-    next
-}
-
-fn run_cases(s: &[u8]) {
-    let mut x = [0u16; 100];
-    script::clear(&mut x);
-    let mut w = [0u8; 69632];
-    let mut item = item::empty();
-    let mut i = 0;
-    while i < s.len() {
-        item = take(item, &mut x, &mut w, s[i]);
-        i += 1;
-    }
-    script::write_total(&x);
+    true
 }
 
 fn main() {
     let mut text = io::large_buffer();
     let n = io::read_full(0, &mut text);
-    run_cases(&text[..n]);
+    let mut w = [0u8; 69632];
+    script::run(&text[..n], &mut w, call);
 }

@@ -1,164 +1,148 @@
-// Cells, and the places in them, in memory and among the descriptors that an item can name.
-use crate::item::pair;
+// What an item can name besides memory: the machine, and what a call is given and answers.
+use crate::item;
+use regs::Machine;
 
-// 0 to 20 are the machine's (machines); from REFUSAL on a call's.
-pub const PC: usize = 10;
+#[derive(Clone, Copy)]
+pub struct Cells {
+    pub machine: Machine,
+    // The banks as a case writes them, of which the machine's second are 1.
+    pub bankaf: u16,
+    pub bankx: u16,
+    pub refusal: u16,
+    // The event's number, and what it carries; the first value has two cells.
+    pub event: u16,
+    pub upper: u16,
+    pub first: u16,
+    pub second: u16,
+    // Steps allowed, and completed.
+    pub steps: u16,
+    // Bytes of memory or of a form, in two cells.
+    pub bytes_upper: u16,
+    pub bytes: u16,
+    pub frames: u16,
+    // A descriptor's number.
+    pub n: u16,
+}
 
-pub const REFUSAL: usize = 21;
+// Where a value stands, and how much of it.
+#[derive(Drop)]
+pub enum Place<'a> {
+    Word(&'a mut u16),
+    Upper(&'a mut u16),
+    Lower(&'a mut u16),
+    Bit(&'a mut u16),
+    Byte(&'a mut u8),
+    // Two as one, the upper first.
+    Long(&'a mut u16, &'a mut u16),
+}
 
-pub const EVENT: usize = 22;
+fn long(upper: u16, lower: u16) -> u32 {
+    u32::from(upper) * 65536 + u32::from(lower)
+}
 
-// What the event carries; the first value has two cells, the lower half first.
-pub const SECOND: usize = 23;
+fn with_upper(x: u16, v: u16) -> u16 {
+    v % 256 * 256 + x % 256
+}
 
-pub const FIRST: usize = 24;
+fn with_lower(x: u16, v: u16) -> u16 {
+    x / 256 * 256 + v % 256
+}
 
-pub const UPPER: usize = 25;
+impl<'a> Place<'a> {
+    pub fn value(&self) -> u32 {
+        match self {
+            Place::Word(x) => u32::from(**x),
+            Place::Upper(x) => u32::from(**x / 256),
+            Place::Lower(x) => u32::from(**x % 256),
+            Place::Bit(x) => u32::from(**x % 2),
+            Place::Byte(x) => u32::from(**x),
+            Place::Long(upper, lower) => long(**upper, **lower),
+        }
+    }
 
-// Steps allowed, and completed.
-pub const STEPS: usize = 26;
-
-// Bytes of memory or of a form, in two cells.
-pub const BYTES: usize = 27;
-
-pub const FRAMES: usize = 29;
-
-// The place of the bytes.
-pub const BYTES_PLACE: u16 = 427;
-
-// A descriptor's number.
-pub const N: usize = 30;
-
-// From 32 on they are the program's own, and from 60 on the descriptors.
-pub const DESCRIPTORS: usize = 60;
-
-// The place of the flags.
-pub const F: u16 = 200;
-
-pub const NOWHERE: u16 = 999;
-
-// The place that a name's letters give: a cell, and 100 for its upper byte, 200 for its lower, 300 for one bit, 400 for it and the next as
-// one.
-pub fn place(name: u64) -> u16 {
-    match name {
-        // A F B C D E H L
-        0x41 => 100,
-        0x46 => 200,
-        0x42 => 101,
-        0x43 => 201,
-        0x44 => 102,
-        0x45 => 202,
-        0x48 => 103,
-        0x4C => 203,
-        // BC DE HL
-        0x4243 => 1,
-        0x4445 => 2,
-        0x484C => 3,
-        // AF' BC' DE' HL'
-        0x414627 => 4,
-        0x424327 => 5,
-        0x444527 => 6,
-        0x484C27 => 7,
-        // IX IY PC SP USP
-        0x4958 => 8,
-        0x4959 => 9,
-        0x5043 => 10,
-        0x5350 => 11,
-        0x555350 => 12,
-        // BANKAF BANKX
-        0x42414E4B4146 => 313,
-        0x42414E4B58 => 314,
-        _ => other_place(name),
+    // Whether the place holds v whole.
+    pub fn put(&mut self, v: u32) -> bool {
+        let word = (v % 65536) as u16;
+        match self {
+            Place::Word(x) | Place::Bit(x) => **x = word,
+            Place::Upper(x) => **x = with_upper(**x, word),
+            Place::Lower(x) => **x = with_lower(**x, word),
+            Place::Byte(x) => **x = (v % 256) as u8,
+            Place::Long(upper, lower) => {
+                **upper = (v / 65536) as u16;
+                **lower = word;
+            }
+        }
+        self.value() == v
     }
 }
 
-// As D1F.
-fn descriptor(name: u64) -> u16 {
-    let n = pair(name);
-    if (name / 0x10000 == 0x44) & (n < 32) {
-        60 + n % 32
-    } else {
-        NOWHERE
+impl Cells {
+    pub fn bytes(&self) -> usize {
+        long(self.bytes_upper, self.bytes) as usize
     }
-}
 
-fn other_place(name: u64) -> u16 {
-    match name {
-        // MSR TCR IOPAGE LIMIT VECTOR MMU
-        0x4D5352 => 15,
-        0x544352 => 216,
-        0x494F50414745 => 217,
-        0x4C494D4954 => 18,
-        0x564543544F52 => 19,
-        0x4D4D55 => 20,
-        // REFUSAL EVENT
-        0x5245465553414C => 21,
-        0x4556454E54 => 22,
-        // OUT NEXT
-        0x4F5554 => 23,
-        0x4E455854 => 23,
-        // PORT OPERAND AT
-        0x504F5254 => 424,
-        0x4F504552414E44 => 424,
-        0x4154 => 424,
-        // BOTH: the first value over the second
-        0x424F5448 => 423,
-        // STEPS BYTES FRAMES N
-        0x5354455053 => 26,
-        0x4259544553 => 427,
-        0x4652414D4553 => 29,
-        0x4E => 30,
-        _ => descriptor(name),
+    pub fn place(&mut self, name: &[u8]) -> Option<Place<'_>> {
+        match name {
+            b"A" => Some(Place::Upper(&mut self.machine.regs.af)),
+            b"F" => Some(Place::Lower(&mut self.machine.regs.af)),
+            b"B" => Some(Place::Upper(&mut self.machine.regs.bc)),
+            b"C" => Some(Place::Lower(&mut self.machine.regs.bc)),
+            b"D" => Some(Place::Upper(&mut self.machine.regs.de)),
+            b"E" => Some(Place::Lower(&mut self.machine.regs.de)),
+            b"H" => Some(Place::Upper(&mut self.machine.regs.hl)),
+            b"L" => Some(Place::Lower(&mut self.machine.regs.hl)),
+            b"BC" => Some(Place::Word(&mut self.machine.regs.bc)),
+            b"DE" => Some(Place::Word(&mut self.machine.regs.de)),
+            b"HL" => Some(Place::Word(&mut self.machine.regs.hl)),
+            b"AF'" => Some(Place::Word(&mut self.machine.regs.af2)),
+            b"BC'" => Some(Place::Word(&mut self.machine.regs.bc2)),
+            b"DE'" => Some(Place::Word(&mut self.machine.regs.de2)),
+            b"HL'" => Some(Place::Word(&mut self.machine.regs.hl2)),
+            b"IX" => Some(Place::Word(&mut self.machine.regs.ix)),
+            b"IY" => Some(Place::Word(&mut self.machine.regs.iy)),
+            b"PC" => Some(Place::Word(&mut self.machine.regs.pc)),
+            b"SP" => Some(Place::Word(&mut self.machine.regs.ssp)),
+            b"USP" => Some(Place::Word(&mut self.machine.regs.usp)),
+            _ => self.control_place(name),
+        }
     }
-}
 
-// What part k of a cell is, with the cell after it.
-fn part(v: u16, next: u16, k: u16) -> u32 {
-    match k / 100 {
-        0 => v as u32,
-        1 => (v / 256) as u32,
-        2 => (v % 256) as u32,
-        3 => (v % 2) as u32,
-        _ => v as u32 + next as u32 * 65536,
+    fn control_place(&mut self, name: &[u8]) -> Option<Place<'_>> {
+        match name {
+            b"BANKAF" => Some(Place::Bit(&mut self.bankaf)),
+            b"BANKX" => Some(Place::Bit(&mut self.bankx)),
+            b"MSR" => Some(Place::Word(&mut self.machine.ctl.msr)),
+            b"TCR" => Some(Place::Byte(&mut self.machine.ctl.tcr)),
+            b"IOPAGE" => Some(Place::Byte(&mut self.machine.ctl.iopage)),
+            b"LIMIT" => Some(Place::Word(&mut self.machine.ctl.limit)),
+            b"VECTOR" => Some(Place::Word(&mut self.machine.ctl.vector)),
+            b"MMU" => Some(Place::Word(&mut self.machine.mmu)),
+            // As D1F.
+            [b'D', high, low] => self.descriptor(*high, *low),
+            _ => self.call_place(name),
+        }
     }
-}
 
-fn with_part(v: u16, word: u16, k: u16) -> u16 {
-    match k / 100 {
-        1 => word % 256 * 256 + v % 256,
-        2 => v / 256 * 256 + word % 256,
-        _ => word,
+    fn descriptor(&mut self, high: u8, low: u8) -> Option<Place<'_>> {
+        let n = item::byte(high, low)?;
+        let d = self.machine.ds.get_mut(usize::from(n))?;
+        Some(Place::Word(d))
     }
-}
 
-pub fn value(x: &[u16; 100], k: u16) -> u32 {
-    let i = (k % 100) as usize;
-    part(x[i], x[(i + 1) % 100], k)
-}
-
-// Whether the place holds v whole.
-pub fn put(x: &mut [u16; 100], k: u16, v: u32) -> bool {
-    let i = (k % 100) as usize;
-    x[i] = with_part(x[i], (v % 65536) as u16, k);
-    if k / 100 == 4 {
-        x[(i + 1) % 100] = (v / 65536) as u16;
-    }
-    value(x, k) == v
-}
-
-// As [2454] or {2454}, by its first letter; past all memory for no address.
-pub fn address(name: u64, opening: u64) -> usize {
-    let high = pair(name / 0x1000000);
-    let low = pair(name / 0x100);
-    if (name / 0x10000000000 == opening) & (high < 256) & (low < 256) {
-        high as usize * 256 + low as usize
-    } else {
-        0xFFFFFFFF
-    }
-}
-
-pub fn count(x: &mut [u16; 100], i: usize) {
-    if i < 100 {
-        x[i] = std::num::wrapping_add_u16(x[i], 1);
+    fn call_place(&mut self, name: &[u8]) -> Option<Place<'_>> {
+        match name {
+            b"REFUSAL" => Some(Place::Word(&mut self.refusal)),
+            b"EVENT" => Some(Place::Word(&mut self.event)),
+            b"OUT" | b"NEXT" => Some(Place::Word(&mut self.second)),
+            b"PORT" | b"OPERAND" | b"AT" => Some(Place::Long(&mut self.upper, &mut self.first)),
+            // The first value over the second.
+            b"BOTH" => Some(Place::Long(&mut self.first, &mut self.second)),
+            b"STEPS" => Some(Place::Word(&mut self.steps)),
+            b"BYTES" => Some(Place::Long(&mut self.bytes_upper, &mut self.bytes)),
+            b"FRAMES" => Some(Place::Word(&mut self.frames)),
+            b"N" => Some(Place::Word(&mut self.n)),
+            _ => None,
+        }
     }
 }

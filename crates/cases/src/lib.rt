@@ -2,9 +2,10 @@
 // them; cells stand for the machine, and for what a call is given and answers.
 #![tactic(auto)]
 
+pub mod calls;
 pub mod cells;
 pub mod item;
-pub mod machines;
+mod machines;
 pub mod memory;
 pub mod report;
 pub mod script;

@@ -1,41 +1,42 @@
 // Items before, and the bytes of the instruction.
-use crate::trial;
+use crate::trial::Trial;
 use cases::item::Item;
-use cases::{cells, item, memory};
+use cases::{item, memory};
 
-fn wide(b: u8) -> u16 {
-    b as u16
+// Whether the item is F as eight flags.
+pub fn is_flags(i: Item) -> bool {
+    matches!(i.name.letters(), b"F") & (i.letters == 8)
 }
 
 // The eight flags of an item; those that it does not show are as in `open`.
-pub fn flags(i: Item, open: u16) -> u16 {
-    let rest = (open % 256) as u8 & !i.shown;
-    wide(i.ones | rest)
+pub fn flags(i: Item, open: u8) -> u8 {
+    i.ones | open & !i.shown
 }
 
-fn put_flags(i: Item, x: &mut [u16; 100]) {
-    let f = flags(i, x[trial::OPEN]);
-    x[trial::FLAGS] = f;
-    cells::put(x, cells::F, f as u32);
-}
+impl Trial {
+    pub fn put_item(&mut self, i: Item) {
+        if is_flags(i) {
+            self.flags = flags(i, self.open);
+            let af = self.cells.machine.regs.af;
+            self.cells.machine.regs.af = af / 256 * 256 + u16::from(self.flags);
+            return;
+        }
+        if !memory::set(i, &mut self.cells, &mut self.memory) {
+            self.unread(i.name.letters());
+        }
+    }
 
-pub fn put_item(i: Item, x: &mut [u16; 100], w: &mut [u8; 65536]) {
-    if (cells::place(i.name) == cells::F) & (i.letters == 8) {
-        put_flags(i, x);
-        return;
+    pub fn put_byte(&mut self, name: &[u8]) {
+        let v = match name {
+            [high, low] => item::byte(*high, *low),
+            _ => None,
+        };
+        let Some(v) = v else {
+            self.unread(name);
+            return;
+        };
+        let a = self.cells.machine.regs.pc.wrapping_add(self.length);
+        self.memory[usize::from(a)] = v;
+        self.length = self.length.wrapping_add(1);
     }
-    if !memory::set(i, x, w) {
-        trial::unread(x, i.name);
-    }
-}
-
-pub fn put_byte(name: u64, x: &mut [u16; 100], w: &mut [u8; 65536]) {
-    let v = item::pair(name);
-    if (name / 0x10000 != 0) | (255 < v) {
-        trial::unread(x, name);
-        return;
-    }
-    let a = std::num::wrapping_add_u16(x[cells::PC], x[trial::LENGTH]) as usize;
-    w[a] = (v % 256) as u8;
-    cells::count(x, trial::LENGTH);
 }

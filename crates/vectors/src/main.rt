@@ -7,48 +7,29 @@ mod after;
 mod before;
 mod trial;
 
+use crate::trial::{Field, Trial};
 use cases::item::Item;
-use cases::{cells, item, machines, report};
-
-fn run(x: &mut [u16; 100], w: &mut [u8; 65536]) {
-    let m = machines::machine(*x);
-    let a = host::run(m, w, x[cells::STEPS]);
-    let next = a.machine;
-    let e = a.event;
-    machines::put_answer(x, a.refusal, next);
-    machines::put_event(x, e);
-}
-
-// The next field; the run stands between the bytes and what is after.
-fn turn(x: &mut [u16; 100], w: &mut [u8; 65536]) {
-    let field = x[trial::FIELD];
-    if field < trial::NOTE {
-        x[trial::FIELD] = field + 1;
-    }
-    if field == trial::BYTES {
-        run(x, w);
-    }
-}
+use cases::report;
 
 // The end of an item, at b.
-fn settle(i: Item, x: &mut [u16; 100], w: &mut [u8; 65536], b: u8) {
-    let field = x[trial::FIELD];
-    if i.name != 0 {
-        match field {
-            trial::BEFORE => before::put_item(i, x, w),
-            trial::BYTES => before::put_byte(i.name, x, w),
-            trial::AFTER => after::see_item(i, x, w),
+fn settle(i: Item, x: &mut Trial, b: u8) {
+    let name = i.name.letters();
+    if !name.is_empty() {
+        match x.field {
+            Field::Before => x.put_item(i),
+            Field::Bytes => x.put_byte(name),
+            Field::After => x.see_item(i),
             _ => {}
         }
     }
     if b == b'|' {
-        turn(x, w);
+        x.turn();
     }
 }
 
 // The line and the instruction are written again.
-fn echo(field: u16, b: u8) {
-    if (field < trial::BEFORE) & (b != b'|') & (b != b'\n') {
+fn echo(field: Field, b: u8) {
+    if (field < Field::Before) & (b != b'|') & (b != b'\n') {
         report::write_letter(b);
     }
 }
@@ -57,53 +38,68 @@ fn goes_on(b: u8) -> bool {
     (b != b' ') & (b != b'|') & (b != b'\n')
 }
 
-fn end_line(x: &mut [u16; 100], y: &mut [u16; 100], w: &mut [u8; 65536], v: &mut [u8; 65536]) {
-    after::end_box(x, y);
-    trial::begin_again(x, 0);
-    trial::begin_again(y, 0xFF);
-    *w = [0; 65536];
-    *v = [0; 65536];
+// Both trials, with the item that is being read, the boxes so far, and those that went wrong.
+#[derive(Clone, Copy)]
+struct Boxes {
+    clear: Trial,
+    set: Trial,
+    item: Item,
+    boxes: u16,
+    wrong: u16,
 }
 
-fn take(
-    i: Item,
-    x: &mut [u16; 100],
-    y: &mut [u16; 100],
-    w: &mut [u8; 65536],
-    v: &mut [u8; 65536],
-    b: u8,
-) -> Item {
-    trial::begin_line(x, b);
-    trial::begin_line(y, b);
-    echo(x[trial::FIELD], b);
-    if goes_on(b) {
-        return i.letter(b);
+impl Boxes {
+    fn new() -> Boxes {
+        Boxes {
+            clear: Trial::new(0),
+            set: Trial::new(0xFF),
+            item: Item::empty(),
+            boxes: 0,
+            wrong: 0,
+        }
     }
-    settle(i, x, w, b);
-    settle(i, y, v, b);
-    if b == b'\n' {
-        end_line(x, y, w, v);
-    }
-    item::empty()
-}
 
-fn write_total(x: &[u16; 100]) {
-    report::write_total(x[trial::BOXES], b" boxes, ", x[trial::WRONG]);
+    fn end_box(&mut self) {
+        if (self.clear.field == Field::Start) | (self.clear.field == Field::NoBox) {
+            return;
+        }
+        let clear = self.clear.is_right();
+        let set = self.set.is_right();
+        self.boxes = self.boxes.wrapping_add(1);
+        if clear & set {
+            io::write_all(1, b" ok\n");
+        } else {
+            io::write_all(1, b"\n");
+            self.wrong = self.wrong.wrapping_add(1);
+        }
+    }
+
+    fn take(&mut self, b: u8) {
+        self.clear.begin_line(b);
+        self.set.begin_line(b);
+        echo(self.clear.field, b);
+        if goes_on(b) {
+            self.item = self.item.letter(b);
+            return;
+        }
+        settle(self.item, &mut self.clear, b);
+        settle(self.item, &mut self.set, b);
+        self.item = Item::empty();
+        if b == b'\n' {
+            self.end_box();
+            self.clear = Trial::new(0);
+            self.set = Trial::new(0xFF);
+        }
+    }
 }
 
 fn run_boxes(s: &[u8]) {
-    let mut x = trial::start(0);
-    let mut y = trial::start(0xFF);
-    let mut w = [0u8; 65536];
-    let mut v = [0u8; 65536];
-    let mut item = item::empty();
-    let mut i = 0;
-    while i < s.len() {
-        item = take(item, &mut x, &mut y, &mut w, &mut v, s[i]);
-        i += 1;
+    let mut all = Boxes::new();
+    for &b in s {
+        all.take(b);
     }
-    take(item, &mut x, &mut y, &mut w, &mut v, b'\n');
-    write_total(&x);
+    all.take(b'\n');
+    report::write_total(all.boxes, b" boxes, ", all.wrong);
 }
 
 fn main() {

@@ -1,82 +1,116 @@
-// The cells of a trial's own.
-use cases::{cells, report};
+// A trial of a box: the cells and memory of its run, and what has been seen of it.
+use cases::cells::Cells;
+use cases::report;
 
-// 0 at a line's start, 1 the manual's line, 2 the instruction, then these.
-pub const FIELD: usize = 32;
-
-pub const BEFORE: u16 = 3;
-
-pub const BYTES: u16 = 4;
-
-pub const AFTER: u16 = 5;
-
-pub const NOTE: u16 = 6;
-
-pub const NO_BOX: u16 = 7;
-
-// The flags that the box leaves open, before; F before.
-pub const OPEN: usize = 33;
-
-pub const FLAGS: usize = 34;
-
-// Bytes of the instruction so far.
-pub const LENGTH: usize = 35;
-
-// The number of the event that the box names.
-pub const NAMED: usize = 36;
-
-// Items after; items that differ or cannot be read.
-pub const COMPARED: usize = 37;
-
-pub const FAULTS: usize = 38;
-
-// Boxes so far.
-pub const BOXES: usize = 39;
-
-pub const WRONG: usize = 40;
-
-pub fn start(open: u16) -> [u16; 100] {
-    let mut x = [0u16; 100];
-    x[0] = open;
-    x[OPEN] = open;
-    x[FLAGS] = open;
-    x[cells::STEPS] = 1;
-    x
+// What a line has between its bars.
+#[derive(Clone, Copy, PartialEq, Eq, PartialOrd, Ord)]
+pub enum Field {
+    Start,
+    Manual,
+    Instruction,
+    Before,
+    Bytes,
+    After,
+    Note,
+    // No box: a line that begins with #.
+    NoBox,
 }
 
-pub fn begin_again(x: &mut [u16; 100], open: u16) {
-    let boxes = x[BOXES];
-    let wrong = x[WRONG];
-    let next = start(open);
-    *x = next;
-    x[BOXES] = boxes;
-    x[WRONG] = wrong;
-}
-
-pub fn begin_line(x: &mut [u16; 100], b: u8) {
-    if (x[FIELD] == 0) & (b != b'\n') {
-        x[FIELD] = if b == b'#' { NO_BOX } else { 1 };
+impl Field {
+    fn next(self) -> Field {
+        match self {
+            Field::Start => Field::Manual,
+            Field::Manual => Field::Instruction,
+            Field::Instruction => Field::Before,
+            Field::Before => Field::Bytes,
+            Field::Bytes => Field::After,
+            Field::After | Field::Note => Field::Note,
+            Field::NoBox => Field::NoBox,
+        }
     }
 }
 
-pub fn unread(x: &mut [u16; 100], name: u64) {
-    report::write_unread(name);
-    cells::count(x, FAULTS);
+#[derive(Clone, Copy)]
+pub struct Trial {
+    pub cells: Cells,
+    pub memory: [u8; 65536],
+    pub field: Field,
+    // The flags that the box leaves open, before; F before.
+    pub open: u8,
+    pub flags: u8,
+    // Bytes of the instruction so far.
+    pub length: u16,
+    // The number of the event that the box names.
+    pub named: u16,
+    // Items after; items that differ or cannot be read.
+    pub compared: u16,
+    pub faults: u16,
 }
 
-fn write_difference(name: u64, is: u32, want: u32) {
+fn write_difference(name: &[u8], is: u32, want: u32) {
     io::write_all(1, b" ");
     report::write_name(name);
     io::write_all(1, b" is ");
-    io::print_hex(1, is as u64, 2);
+    io::print_hex(1, u64::from(is), 2);
     io::write_all(1, b", not ");
-    io::print_hex(1, want as u64, 2);
+    io::print_hex(1, u64::from(want), 2);
 }
 
-pub fn compare(x: &mut [u16; 100], name: u64, is: u32, want: u32) {
-    cells::count(x, COMPARED);
-    if is != want {
-        write_difference(name, is, want);
-        cells::count(x, FAULTS);
+impl Trial {
+    pub fn new(open: u8) -> Trial {
+        let mut cells = Cells::empty();
+        cells.machine.regs.af = u16::from(open);
+        cells.steps = 1;
+        Trial {
+            cells,
+            memory: [0; 65536],
+            field: Field::Start,
+            open,
+            flags: open,
+            length: 0,
+            named: 0,
+            compared: 0,
+            faults: 0,
+        }
+    }
+
+    pub fn begin_line(&mut self, b: u8) {
+        if (self.field == Field::Start) & (b != b'\n') {
+            self.field = if b == b'#' {
+                Field::NoBox
+            } else {
+                Field::Manual
+            };
+        }
+    }
+
+    fn run(&mut self) {
+        let a = host::run(self.cells.machine(), &mut self.memory, self.cells.steps);
+        let next = a.machine;
+        let e = a.event;
+        self.cells.put_answer(a.refusal, next);
+        self.cells.put_event(e);
+    }
+
+    // The next field; the run stands between the bytes and what is after.
+    pub fn turn(&mut self) {
+        let ran = self.field == Field::Bytes;
+        self.field = self.field.next();
+        if ran {
+            self.run();
+        }
+    }
+
+    pub fn unread(&mut self, name: &[u8]) {
+        report::write_unread(name);
+        self.faults = self.faults.wrapping_add(1);
+    }
+
+    pub fn compare(&mut self, name: &[u8], is: u32, want: u32) {
+        self.compared = self.compared.wrapping_add(1);
+        if is != want {
+            write_difference(name, is, want);
+            self.faults = self.faults.wrapping_add(1);
+        }
     }
 }
