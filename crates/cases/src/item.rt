@@ -1,5 +1,5 @@
 // An item as far as it has been read: a name, and after a mark a value in hexadecimal capitals.
-ghost use Rattle.std.specs.Prelude.{◌<◌, IfSome};
+ghost use Rattle.std.specs.Prelude.{◌≡◌, ◌<◌, IfSome};
 
 // The last eight letters of a name, with zeros before fewer.
 #[derive(Clone, Copy)]
@@ -106,7 +106,9 @@ impl Item {
         self
     }
 
-    pub fn number(self) -> Option<u32> {
+    pub fn number(self) -> Option<u32>
+        ensures { IfSome result (λ v. v ≡ self.value) }
+    {
         if self.hex & (self.letters != 0) {
             Some(self.value)
         } else {

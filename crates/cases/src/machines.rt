@@ -1,4 +1,8 @@
 // The machine and the event that cells stand for, and the cells of those that a call answers.
+ghost use Rattle.std.specs.Prelude.{◌≡◌};
+ghost use Rattle.bus.specs.Leave.{event_of};
+ghost use Rattle.events.specs.Events.{event_numbers};
+
 use crate::cells::Cells;
 use bus::kinds::Event;
 use events::Numbered;
@@ -84,14 +88,18 @@ impl Cells {
         }
     }
 
-    pub fn put_answer(&mut self, refusal: u8, m: Machine) {
+    pub fn put_answer(&mut self, refusal: u8, m: Machine)
+        ensures { (self.new.refusal ≡ refusal) × (self.new.machine ≡ m) }
+    {
         self.refusal = u16::from(refusal);
         self.machine = m;
         self.bankaf = u16::from(m.regs.bankaf);
         self.bankx = u16::from(m.regs.bankx);
     }
 
-    pub fn put_event(&mut self, e: Event) {
+    pub fn put_event(&mut self, e: Event)
+        ensures { self.new.event ≡ (event_numbers (event_of e)).number }
+    {
         let n = Numbered::from(e);
         self.event = n.number;
         self.upper = (n.first / 65536 % 65536) as u16;
