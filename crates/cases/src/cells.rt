@@ -5,7 +5,7 @@ use regs::Machine;
 #[derive(Clone, Copy)]
 pub struct Cells {
     pub machine: Machine,
-    // The banks as a case writes them, of which the machine's second are 1.
+    // As a case writes them: 1 for the second bank, and any other number for the first.
     pub bankaf: u16,
     pub bankx: u16,
     pub refusal: u16,

@@ -2,8 +2,7 @@
 ghost use Rattle.std.specs.Prelude.{◌<◌, IfSome, length};
 
 use crate::cells::Cells;
-use crate::item;
-use crate::item::Item;
+use crate::item::{self, Item};
 
 // As [2454] or {2454}, by its first letter.
 fn address(name: &[u8], opening: u8) -> Option<usize> {
