@@ -1,4 +1,5 @@
 -- One access in both machines: the same, or in the second a violation that names a withheld descriptor.
+use Rattle.std.specs.Prelude.{Result, Ok, Err}
 use Prim.Native.Nat.{ℕ, ◌/◌}
 use mathlib.Core.Path.{◌≡◌, refl, sym, ◌∙◌, ap}
 use mathlib.Core.Bool.{Bool, true, false, cond}
@@ -7,11 +8,10 @@ use mathlib.Core.Option.{Option, none, some}
 use lib.Dec.{ltb, eqb}
 use lib.ListN.{length, get_or, length-set}
 use Rattle.mmu.specs.Translate.{mode_bits, translating, separated, valid, barred, physical, number_of, by_descriptor, placed, translate, set_modified, change, marked, latched}
-use Rattle.mmu.specs.declared.Place.{Place}
-use Rattle.mmu.specs.declared.Place.TheVariants.{At, Violates}
+use Rattle.mmu.specs.declared.Violated.{Violated}
 use Rattle.mmu.proofs.Marks.{valid_clear, clear_modified, valid_modified, get_or_change, latched_kept, mode_same}
-use Rattle.board.specs.declared.Got.{Got}
-use Rattle.board.specs.declared.Got.TheVariants.{Byte, Denied, Lacks}
+use Rattle.board.specs.declared.Fault.{Fault}
+use Rattle.board.specs.declared.Fault.TheVariants.{Denied, Lacks}
 use Rattle.board.specs.Program.{Board, Write, State, through, from_memory, if_room, read_byte, write_to, touch}
 use Rattle.board.specs.Withhold.{has, hidden, AllValid}
 
@@ -46,21 +46,21 @@ module _ (w : List ℕ) (m : ℕ) (ds : List ℕ) (n : ℕ) (es : List ℕ) (i :
 -- ── translation ──
 
 -- no withheld descriptor is named
-Free : List ℕ → Place → Type 0
-Free w (At p) = Unit {0}
-Free w (Violates i) = has w i ≡ false
+Free : List ℕ → Result ℕ Violated → Type 0
+Free w (Ok p) = Unit {0}
+Free w (Err v) = has w v.descriptor ≡ false
 
-data Seen (w : List ℕ) (x y : Place) : Type 0 where
+data Seen (w : List ℕ) (x y : Result ℕ Violated) : Type 0 where
   alike : y ≡ x → Free w x → Seen w x y
-  held : (i : ℕ) → has w i ≡ true → y ≡ Violates i → Seen w x y
+  held : (i : ℕ) → has w i ≡ true → y ≡ Err (record { descriptor = i }) → Seen w x y
 
-free : (w : List ℕ) (i : ℕ) (b : Bool) (p : ℕ) → has w i ≡ false → Free w (cond b (Violates i) (At p))
+free : (w : List ℕ) (i : ℕ) (b : Bool) (p : ℕ) → has w i ≡ false → Free w (cond b (Err (record { descriptor = i })) (Ok p))
 unfolding Free
 free w i true p h = h
 free w i false p h = tt
 
 placed_seen : (w : List ℕ) (on apart : Bool) (i d e : ℕ) (write : Bool) (a : ℕ) → e ≡ hidden (has w i) d →
-    Seen w (cond on (by_descriptor apart i d write a) (At a)) (cond on (by_descriptor apart i e write a) (At a))
+    Seen w (cond on (by_descriptor apart i d write a) (Ok a)) (cond on (by_descriptor apart i e write a) (Ok a))
 unfolding by_descriptor barred Free
 placed_seen w false apart i d e write a h = alike refl tt
 placed_seen w true apart i d e write a h = go (has w i) refl
@@ -84,14 +84,14 @@ translate_seen w user m n ds es program write a v =
 
 -- ── access ──
 
-unfoldable pub Spared : List ℕ → Got → Type 0
-Spared w (Byte b) = Unit {0}
-Spared w (Denied i) = has w i ≡ false
-Spared w (Lacks p) = Unit {0}
+unfoldable pub Spared : List ℕ → Result ℕ Fault → Type 0
+Spared w (Ok b) = Unit {0}
+Spared w (Err (Denied i)) = has w i ≡ false
+Spared w (Err (Lacks p)) = Unit {0}
 
-pub data Met (w : List ℕ) (g h : Got) : Type 0 where
+pub data Met (w : List ℕ) (g h : Result ℕ Fault) : Type 0 where
   alike : h ≡ g → Spared w g → Met w g h
-  held : (i : ℕ) → has w i ≡ true → h ≡ Denied i → Met w g h
+  held : (i : ℕ) → has w i ≡ true → h ≡ Err (Denied i) → Met w g h
 
 loaded : (w : List ℕ) (p : ℕ) (o : Option ℕ) → Spared w (from_memory p o)
 unfolding from_memory Spared
@@ -103,12 +103,12 @@ unfolding if_room Spared
 roomy w p true = tt
 roomy w p false = tt
 
-spared : (w : List ℕ) (f : ℕ → Got) → ((p : ℕ) → Spared w (f p)) → (x : Place) → Free w x → Spared w (through f x)
+spared : (w : List ℕ) (f : ℕ → Result ℕ Fault) → ((p : ℕ) → Spared w (f p)) → (x : Result ℕ Violated) → Free w x → Spared w (through f x)
 unfolding through Free Spared
-spared w f hf (At p) h = hf p
-spared w f hf (Violates i) h = h
+spared w f hf (Ok p) h = hf p
+spared w f hf (Err v) h = h
 
-met : (w : List ℕ) (f : ℕ → Got) → ((p : ℕ) → Spared w (f p)) → (x y : Place) → Seen w x y → Met w (through f x) (through f y)
+met : (w : List ℕ) (f : ℕ → Result ℕ Fault) → ((p : ℕ) → Spared w (f p)) → (x y : Result ℕ Violated) → Seen w x y → Met w (through f x) (through f y)
 unfolding through
 met w f hf x y (alike e h) = alike (ap (through f) e) (spared w f hf x h)
 met w f hf x y (held i h e) = held i h (ap (through f) e)

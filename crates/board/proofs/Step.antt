@@ -1,12 +1,13 @@
 -- One step in both machines: the same, or in the second a violation that names a withheld descriptor.
+use Rattle.std.specs.Prelude.{Result, Ok, Err}
 use Prim.Native.Nat.{ℕ}
 use mathlib.Core.Path.{◌≡◌, refl, ap}
 use mathlib.Core.Bool.{Bool, true, false, cond}
 use mathlib.Core.List.{List, [], ◌∷◌}
 use mathlib.Core.Option.{none}
 use Rattle.mmu.specs.Translate.{latched}
-use Rattle.board.specs.declared.Got.{Got}
-use Rattle.board.specs.declared.Got.TheVariants.{Byte, Denied, Lacks}
+use Rattle.board.specs.declared.Fault.{Fault}
+use Rattle.board.specs.declared.Fault.TheVariants.{Denied, Lacks}
 use Rattle.board.specs.Program.{Board, Write, Prog, read, done, govern, stop, violation, State, Answer, read_byte, write_to, faulted, after, touch, finish, writes, halted, exec}
 use Rattle.board.specs.Withhold.{has, if_has, named}
 use Rattle.board.proofs.Access.{veil, Veiled, latched_second, latched_both, Spared, Met, alike, held, read_met, write_met, touch_veiled}
@@ -19,15 +20,15 @@ pub data Sim (B : Board) (w : List ℕ) (s : State B) (a b : Answer B) : Type 0 
       b ≡ record { state = veil s n es; event = violation i (B.pc s.regs) } → Veiled w s.mmu s.ds n es → Sim B w s a b
 
 module _ {B : Board} (w : List ℕ) (s : State B) (n : ℕ) (es : List ℕ) (v : Veiled w s.mmu s.ds n es) where
-  after_alike : (f f' : ℕ → Answer B) (g : Got) → Spared w g → ((b : ℕ) → Sim B w s (f b) (f' b)) →
+  after_alike : (f f' : ℕ → Answer B) (g : Result ℕ Fault) → Spared w g → ((b : ℕ) → Sim B w s (f b) (f' b)) →
       Sim B w s (after s g f) (after (veil s n es) g f')
   unfolding after faulted veil Spared named
-  after_alike f f' (Byte b) h k = k b
-  after_alike f f' (Denied i) h k =
+  after_alike f f' (Ok b) h k = k b
+  after_alike f f' (Err (Denied i)) h k =
       same (latched i n) es refl (latched_both w s.mmu s.ds n es i v) (ap (if_has i) h)
-  after_alike f f' (Lacks p) h k = same n es refl v refl
+  after_alike f f' (Err (Lacks p)) h k = same n es refl v refl
 
-  after_sim : (f f' : ℕ → Answer B) (g h : Got) → Met w g h → ((b : ℕ) → Sim B w s (f b) (f' b)) →
+  after_sim : (f f' : ℕ → Answer B) (g h : Result ℕ Fault) → Met w g h → ((b : ℕ) → Sim B w s (f b) (f' b)) →
       Sim B w s (after s g f) (after (veil s n es) h f')
   unfolding after faulted veil
   after_sim f f' g h (alike e q) k = rw e (after_alike f f' g q k)

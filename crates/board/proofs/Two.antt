@@ -1,9 +1,10 @@
 -- Two programs that go on alike after each byte give the same step and the same run.
+use Rattle.std.specs.Prelude.{Result, Ok, Err}
 use Prim.Native.Nat.{ℕ, zero, suc, ◌<◌}
 use mathlib.Core.Path.{◌≡◌, refl, ap, fun_ext}
 use mathlib.Core.Bool.{Bool}
-use Rattle.board.specs.declared.Got.{Got}
-use Rattle.board.specs.declared.Got.TheVariants.{Byte, Denied, Lacks}
+use Rattle.board.specs.declared.Fault.{Fault}
+use Rattle.board.specs.declared.Fault.TheVariants.{Denied, Lacks}
 use Rattle.board.specs.Program.{Board, Prog, read, State, Answer, read_byte, after, exec}
 use Rattle.board.specs.Run.{Program, Ran, step, go_on, run}
 
@@ -11,12 +12,12 @@ pub data Same (B : Board) : Prog B → Prog B → Type 0 where
   alike : (program : Bool) (a : ℕ) (f g : ℕ → Prog B) → ((b : ℕ) → b < 256 → Same B (f b) (g b)) → Same B (read program a f) (read program a g)
   self : (p : Prog B) → Same B p p
 
-module _ {B : Board} (bytes : (s : State B) (program : Bool) (a b : ℕ) → read_byte s program a ≡ Byte b → b < 256) where
-  after_cong : (s : State B) (g : Got) (f h : ℕ → Answer B) → ((b : ℕ) → g ≡ Byte b → f b ≡ h b) → after s g f ≡ after s g h
+module _ {B : Board} (bytes : (s : State B) (program : Bool) (a b : ℕ) → read_byte s program a ≡ Ok b → b < 256) where
+  after_cong : (s : State B) (g : Result ℕ Fault) (f h : ℕ → Answer B) → ((b : ℕ) → g ≡ Ok b → f b ≡ h b) → after s g f ≡ after s g h
   unfolding after
-  after_cong s (Byte b) f h e = e b refl
-  after_cong s (Denied i) f h e = refl
-  after_cong s (Lacks p) f h e = refl
+  after_cong s (Ok b) f h e = e b refl
+  after_cong s (Err (Denied i)) f h e = refl
+  after_cong s (Err (Lacks p)) f h e = refl
 
   pub exec_cong : {p q : Prog B} (s : State B) → Same B p q → exec p s ≡ exec q s
   unfolding exec

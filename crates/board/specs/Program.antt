@@ -1,12 +1,11 @@
 -- A step as a program of accesses, and its one interpreter: alone here are translation, descriptors and memory used.
 -- `Board` names what no theorem below looks into.
-use Rattle.std.specs.Prelude.{ℕ, Bool, true, false, cond, List, [], ◌∷◌}
+use Rattle.std.specs.Prelude.{ℕ, Bool, true, false, cond, List, [], ◌∷◌, Result, Ok, Err}
 use Rattle.std.proofs.Math.Option.{Option, none, some}
 use Rattle.mmu.specs.Translate.{mode_bits, translate, marked, latched}
-use Rattle.mmu.specs.declared.Place.{Place}
-use Rattle.mmu.specs.declared.Place.TheVariants.{At, Violates}
-use Rattle.board.specs.declared.Got.{Got}
-use Rattle.board.specs.declared.Got.TheVariants.{Byte, Denied, Lacks}
+use Rattle.mmu.specs.declared.Violated.{Violated}
+use Rattle.board.specs.declared.Fault.{Fault}
+use Rattle.board.specs.declared.Fault.TheVariants.{Denied, Lacks}
 
 -- R: registers with PC. C: control registers other than MMU control. E: events 3 to 9. M: physical memory.
 -- load: the byte at a physical address, where there is memory. room: whether a byte may be stored there.
@@ -62,29 +61,29 @@ pub record Answer (B : Board) : Type 0 where
 -- ── one access ──
 
 -- the one place where translation's answer is taken apart
-unfoldable pub through : (ℕ → Got) → Place → Got
-through f (At p) = f p
-through f (Violates i) = Denied i
+unfoldable pub through : (ℕ → Result ℕ Fault) → Result ℕ Violated → Result ℕ Fault
+through f (Ok p) = f p
+through f (Err v) = Err (Denied v.descriptor)
 
 -- memory's size is tested after translation
-unfoldable pub from_memory : ℕ → Option ℕ → Got
-from_memory p (some b) = Byte b
-from_memory p none = Lacks p
+unfoldable pub from_memory : ℕ → Option ℕ → Result ℕ Fault
+from_memory p (some b) = Ok b
+from_memory p none = Err (Lacks p)
 
-unfoldable pub if_room : ℕ → Bool → Got
-if_room p true = Byte p
-if_room p false = Lacks p
+unfoldable pub if_room : ℕ → Bool → Result ℕ Fault
+if_room p true = Ok p
+if_room p false = Err (Lacks p)
 
 module _ {B : Board} where
   abbrev pub in_user : State B → Bool
   in_user s = B.user s.ctl
 
-  unfoldable pub read_byte : State B → (program : Bool) (a : ℕ) → Got
+  unfoldable pub read_byte : State B → (program : Bool) (a : ℕ) → Result ℕ Fault
   read_byte s program a =
       through (λ p. from_memory p (B.load s.ctl s.mem p))
       (translate s.mmu (in_user s) s.ds program false a)
 
-  unfoldable pub write_to : State B → Write → Got
+  unfoldable pub write_to : State B → Write → Result ℕ Fault
   write_to s x =
       through (λ p. if_room p (B.room s.ctl s.mem p))
       (translate s.mmu (in_user s) s.ds x.program true x.addr)
@@ -94,10 +93,10 @@ module _ {B : Board} where
   faulted s i = record { regs = s.regs; ctl = s.ctl; mmu = latched i s.mmu; ds = s.ds; mem = s.mem }
 
   -- A faulting access ends the step at once.
-  unfoldable pub after : State B → Got → (ℕ → Answer B) → Answer B
-  after s (Byte b) f = f b
-  after s (Denied i) f = record { state = faulted s i; event = violation i (B.pc s.regs) }
-  after s (Lacks p) f = record { state = s; event = absent p }
+  unfoldable pub after : State B → Result ℕ Fault → (ℕ → Answer B) → Answer B
+  after s (Ok b) f = f b
+  after s (Err (Denied i)) f = record { state = faulted s i; event = violation i (B.pc s.regs) }
+  after s (Err (Lacks p)) f = record { state = s; event = absent p }
 
   -- ── the end of a step ──
 

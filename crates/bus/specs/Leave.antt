@@ -1,7 +1,7 @@
 -- The code's records against the definition's: what a turn leaves, with the descriptors and the memory after it.
-use Rattle.std.specs.Prelude.{ℕ, ◌/◌, ◌%◌, Bool, List, [], ◌∷◌}
+use Rattle.std.specs.Prelude.{ℕ, ◌/◌, ◌%◌, Bool, List, [], ◌∷◌, Err}
 use Rattle.board.specs.Program as b
-use Rattle.board.specs.declared.Got.{Got}
+use Rattle.board.specs.declared.Fault.{Fault}
 use Rattle.regs.specs.declared.Regs.{Regs}
 use Rattle.regs.specs.declared.Control.{Control}
 use Rattle.plan.specs.declared.kinds.Write as wr
@@ -24,9 +24,9 @@ state_of r c mmu ds w = record { regs = r; ctl = c; mmu = mmu; ds = ds; mem = w 
 abbrev pub whole : Turn → (ds w : List ℕ) → b.Answer real
 whole t ds w = record { state = state_of t.regs t.ctl t.mmu ds w; event = event_of t.event }
 
--- an access that was denied ends the step
-unfoldable pub denial : b.State real → Got → b.Answer real
-denial s g = b.after s g (λ x. record { state = s; event = b.completed })
+-- a fault ends the step
+unfoldable pub denial : b.State real → Fault → b.Answer real
+denial s e = b.after s (Err e) (λ x. record { state = s; event = b.completed })
 
 -- what is written, byte by byte, low byte of a word first
 abbrev pub one_write : Bool → ℕ → ℕ → List b.Write

@@ -1,5 +1,5 @@
 -- The machine: the program of accesses that a step is. Document 01, "One step, in order".
-use Rattle.std.specs.Prelude.{ℕ, zero, suc, ◌/◌, ◌%◌, Bool, true, cond, ◌&&◌, eqb, ltb}
+use Rattle.std.specs.Prelude.{ℕ, zero, suc, ◌/◌, ◌%◌, Bool, true, cond, ◌&&◌, eqb, ltb, Option, Some, None}
 use Rattle.board.specs.Program.{Prog, read, done, govern, stop}
 use Rattle.decode.specs.Opening.{opening_of, after_opening, entered}
 use Rattle.decode.specs.Entry.{op_in, reads_in, mode_in, bytes_in}
@@ -12,7 +12,6 @@ use Rattle.plan.specs.declared.kinds.Stop.TheVariants.{Extended, Nothing}
 use Rattle.plan.specs.declared.kinds.Ins.{Ins}
 use Rattle.plan.specs.declared.kinds.Spot.{Spot}
 use Rattle.plan.specs.declared.kinds.Early.{Early}
-use Rattle.plan.specs.declared.kinds.Early.TheVariants.{Ends, On}
 use Rattle.plan.specs.declared.kinds.Done.{Done}
 use Rattle.plan.specs.declared.kinds.Governed.{Governed}
 use Rattle.plan.specs.Kinds.{plus}
@@ -48,13 +47,13 @@ operated r c i s = read_n (count s.n) s.program s.a (λ v. worked r c i s (v % 4
 
 -- ── stages 2 and 3: left out, privileged, HALT, SC, ports ──
 
-unfoldable pub went : Regs → Control → Ins → Early → Prog real
-went r c i (Ends pc e) = stop (with_pc pc r) e
-went r c i On = operated r c i (spot_of (user_of c) r i)
+unfoldable pub went : Regs → Control → Ins → Option Early → Prog real
+went r c i (Some x) = stop (with_pc x.pc r) x.stop
+went r c i None = operated r c i (spot_of (user_of c) r i)
 
 -- operations from 24 on end in no event of stages 2 and 3
-unfoldable pub early : Regs → Control → Ins → Early
-early r c i = cond (ltb i.op 24) (early_of r c i) On
+unfoldable pub early : Regs → Control → Ins → Option Early
+early r c i = cond (ltb i.op 24) (early_of r c i) None
 
 unfoldable pub judged : Regs → Control → Ins → Prog real
 judged r c i = went r c i (early r c i)

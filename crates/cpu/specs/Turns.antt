@@ -1,17 +1,14 @@
 -- What a step leaves beside descriptors and memory, by how it ends.
-use Rattle.std.specs.Prelude.{ℕ}
-use Rattle.board.specs.declared.Got.{Got}
-use Rattle.board.specs.declared.Got.TheVariants.{Denied, Lacks}
+use Rattle.std.specs.Prelude.{ℕ, List, Result, Ok, Err}
+use Rattle.board.specs.Program as b
+use Rattle.board.specs.declared.Fault.{Fault}
 use Rattle.regs.specs.declared.Regs.{Regs}
 use Rattle.regs.specs.declared.Control.{Control}
-use Rattle.regs.specs.Change.{with_pc}
 use Rattle.plan.specs.declared.kinds.Stop.{Stop}
-use Rattle.plan.specs.declared.kinds.Early.{Early}
-use Rattle.plan.specs.declared.kinds.Early.TheVariants.{Ends, On}
 use Rattle.bus.specs.declared.kinds.Turn.{Turn}
 use Rattle.bus.specs.declared.kinds.Event.TheVariants.{Completed, Stopped}
-use Rattle.cpu.specs.declared.kinds.Lead.{Lead}
-use Rattle.cpu.specs.declared.kinds.Lead.TheVariants as lead
+use Rattle.bus.specs.Board.{real}
+use Rattle.bus.specs.Leave.{state_of, whole, denial}
 
 abbrev pub completed_turn : Regs → Control → (mmu : ℕ) → Turn
 completed_turn r c mmu = record { regs = r; ctl = c; mmu = mmu; event = Completed }
@@ -19,12 +16,7 @@ completed_turn r c mmu = record { regs = r; ctl = c; mmu = mmu; event = Complete
 abbrev pub stopped_turn : Regs → Control → (mmu : ℕ) → Stop → Turn
 stopped_turn r c mmu e = record { regs = r; ctl = c; mmu = mmu; event = Stopped e }
 
-unfoldable pub ended_turn : Regs → Control → (mmu : ℕ) → Early → Turn
-ended_turn r c mmu (Ends pc e) = stopped_turn (with_pc pc r) c mmu e
-ended_turn r c mmu On = completed_turn r c mmu
-
--- the fault that a lead came to
-unfoldable pub fault_of : Lead → Got
-fault_of (lead.Code o x d at) = Lacks 0
-fault_of (lead.Denied i) = Denied i
-fault_of (lead.Lacks p) = Lacks p
+-- what a step comes to: a turn, or the fault that ends it
+unfoldable pub came : Regs → Control → (mmu : ℕ) → Result Turn Fault → (ds w : List ℕ) → b.Answer real
+came r c mmu (Ok t) ds w = whole t ds w
+came r c mmu (Err e) ds w = denial (state_of r c mmu ds w) e

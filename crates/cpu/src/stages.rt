@@ -9,6 +9,7 @@ use plan::kinds::{Early, Governed, Ins, Stop};
 use regs::{Control, Regs};
 
 // New control registers: privileged.
+#[tactic(auto, unfolding(crate::specs::Program::ruled, board::specs::Program::exec, board::specs::Program::halted, board::specs::Program::finish, bus::specs::Leave::event_of))]
 pub fn rule(r: Regs, c: Control, control: u16, g: Governed) -> Turn
     ensures { (ds w : List ℕ) → whole result ds w ≡ exec (ruled g) (state_of r c control ds w) }
 {
@@ -31,16 +32,19 @@ pub fn rule(r: Regs, c: Control, control: u16, g: Governed) -> Turn
     }
 }
 
-pub fn early_end(r: Regs, c: Control, i: Ins) -> Early
+#[tactic(auto, unfolding(crate::specs::Program::early))]
+pub fn early_end(r: Regs, c: Control, i: Ins) -> Option<Early>
     ensures { result ≡ early r c i }
 {
     let may = i.op < 24;
     if may {
-        return plan::early::early_of(r, c, i);
+        plan::early::early_of(r, c, i)
+    } else {
+        None
     }
-    Early::On
 }
 
+#[tactic(auto, unfolding(crate::specs::Program::missing))]
 pub fn missing_of(r: Regs, c: Control, e: u16) -> Stop
     ensures { result ≡ missing r c e }
 {
@@ -51,16 +55,18 @@ pub fn missing_of(r: Regs, c: Control, e: u16) -> Stop
     Stop::Nothing(r.pc)
 }
 
+#[tactic(auto, unfolding(crate::specs::Program::arg_of))]
 fn arg_of(bytes: u8, d: u8, n: u64) -> u32
     ensures { result ≡ arg_of bytes d n }
 {
     let none = bytes == 0;
     if none {
-        return d as u32;
+        return u32::from(d);
     }
     (n % 4294967296) as u32
 }
 
+#[tactic(auto, unfolding(crate::specs::Program::ins_of))]
 pub fn ins_of(r: Regs, o: u8, b: u8, d: u8, e: u16, at: u16, n: u64) -> Ins
     ensures { result ≡ ins_of r o b d e at n }
 {

@@ -17,90 +17,72 @@ pub mod mode;
 mod none;
 pub mod op;
 
-// The nine tables in the order of the openings' numbers.
-pub fn tables() -> [[u16; 256]; 9]
-    ensures { result ≡ tabled }
-{
-    let none = none::table();
-    let cb = cb::table();
-    let ed = ed::table();
-    let dd = dd::table();
-    let fd = fd::table();
-    let dd_cb = dd_cb::table();
-    let fd_cb = fd_cb::table();
-    let dd_ed = dd_ed::table();
-    let fd_ed = fd_ed::table();
-    [none, cb, ed, dd, fd, dd_cb, fd_cb, dd_ed, fd_ed]
+// The nine tables in the order of the openings' numbers, held and lent: a const table would be copied at each lookup.
+#[derive(Drop)]
+pub struct Tables {
+    entries: [[u16; 256]; 9],
+    ghost told: { entries ≡ tabled },
 }
 
-// The entry of the operation code b after the opening o, in tables held and lent: a const table would be copied at each lookup.
-pub fn entry_in(t: &[[u16; 256]; 9], o: u8, b: u8) -> u16
-    requires { t.now ≡ tabled }
-    ensures { result ≡ entered o b }
-{
-    if o > 8 {
-        return 0;
+impl Tables {
+    pub fn new() -> Tables {
+        let none = none::table();
+        let cb = cb::table();
+        let ed = ed::table();
+        let dd = dd::table();
+        let fd = fd::table();
+        let dd_cb = dd_cb::table();
+        let fd_cb = fd_cb::table();
+        let dd_ed = dd_ed::table();
+        let fd_ed = fd_ed::table();
+        Tables {
+            entries: [none, cb, ed, dd, fd, dd_cb, fd_cb, dd_ed, fd_ed],
+        }
     }
-    t[o as usize][b as usize]
+
+    // The entry of the operation code b after the opening o.
+    pub fn entry(&self, o: u8, b: u8) -> u16
+        ensures { result ≡ entered o b }
+    {
+        if o > 8 {
+            return 0;
+        }
+        self.entries[o as usize][b as usize]
+    }
 }
 
 pub fn entry(o: u8, b: u8) -> u16
     ensures { result ≡ entered o b }
 {
-    let t = tables();
-    entry_in(&t, o, b)
+    Tables::new().entry(o, b)
 }
 
 // The opening that a first byte begins; 0 where it begins none.
+#[tactic(auto, unfolding(crate::specs::Opening::opening_of))]
 pub fn opening_of(b: u8) -> u8
     ensures { result ≡ opening_of b }
 {
-    let cb = b == 0xCB;
-    let ed = b == 0xED;
-    let dd = b == 0xDD;
-    let fd = b == 0xFD;
-    if cb {
-        return 1;
+    match b {
+        0xCB => 1,
+        0xED => 2,
+        0xDD => 3,
+        0xFD => 4,
+        _ => 0,
     }
-    if ed {
-        return 2;
-    }
-    if dd {
-        return 3;
-    }
-    if fd {
-        return 4;
-    }
-    0
 }
 
 // The opening that a byte after DD or FD (o is 3 or 4) begins; 0 where it begins none.
+#[tactic(auto, unfolding(crate::specs::Opening::after_opening))]
 pub fn after_opening(o: u8, b: u8) -> u8
     ensures { result ≡ after_opening o b }
 {
-    let cb = b == 0xCB;
-    let ed = b == 0xED;
-    let ix = o == 3;
-    let iy = o == 4;
-    if ix {
-        if cb {
-            return 5;
-        }
-        if ed {
-            return 7;
-        }
-        return 0;
+    match (o, b) {
+        (3, 0xCB) => 5,
+        (3, 0xED) => 7,
+        (4, 0xCB) => 6,
+        (4, 0xED) => 8,
+        _ => 0,
     }
-    if iy {
-        if cb {
-            return 6;
-        }
-        if ed {
-            return 8;
-        }
-        return 0;
-    }
-    0
 }
 
 pub fn op_of(e: u16) -> u8

@@ -1,4 +1,5 @@
 -- The known step: without translation each byte goes to its own address.
+use Rattle.std.specs.Prelude.{Ok}
 use Prim.Native.Nat.{ℕ, ◌+◌, ◌/◌, ◌%◌, ◌<◌, ◌≤◌}
 use mathlib.Core.Path.{◌≡◌, refl, sym, ◌∙◌, ap}
 use mathlib.Core.Bool.{false}
@@ -11,7 +12,6 @@ use Rattle.regs.specs.declared.Machine.{Machine}
 use Rattle.mmu.specs.Translate.{bit, translate, placed}
 use Rattle.mmu.proofs.Known.{translating_is}
 use Rattle.plan.specs.declared.kinds.Stop.TheVariants.{Call}
-use Rattle.board.specs.declared.Got.TheVariants.{Byte}
 use Rattle.board.specs.Program.{through, if_room}
 use Rattle.bus.specs.declared.kinds.Event.TheVariants.{Stopped}
 use Rattle.bus.specs.Access.{next, room_for}
@@ -42,7 +42,7 @@ above p q v w j h k =
 
 -- ── no translation ──
 
-room_off : (mmu : ℕ) (ds : List ℕ) (n a : ℕ) → bit 0x0800 mmu ≡ false → a < n → room_for false mmu ds n false a ≡ Byte a
+room_off : (mmu : ℕ) (ds : List ℕ) (n a : ℕ) → bit 0x0800 mmu ≡ false → a < n → room_for false mmu ds n false a ≡ Ok a
 unfolding room_for translate placed through if_room
 room_off mmu ds n a off h = rw (translating_is mmu false ∙ off, lt-ltb a n h)
 

@@ -1,6 +1,7 @@
--- Which operations have to do with the alternate registers; an arm of the match; what is past the last.
-use Prim.Native.Nat.{ℕ, ◌+◌, ◌-◌, ◌≤◌}
-use mathlib.Core.Path.{◌≡◌, refl, sym, ◌∙◌, ap}
+-- Which operations have to do with the alternate registers; what is past the last.
+use Prim.Native.Nat.{ℕ, ◌+◌, ◌≤◌}
+use Rattle.std.specs.Prelude.{Some}
+use mathlib.Core.Path.{◌≡◌, refl, sym, ◌∙◌}
 use mathlib.Core.Bool.{Bool, true, false}
 use native.Mathlib.Omega.{arith}
 use borrow.Author.Tests.{ne_eqb}
@@ -10,10 +11,9 @@ use Rattle.plan.specs.declared.kinds.Ins.{Ins}
 use Rattle.plan.specs.declared.kinds.Spot.{Spot}
 use Rattle.plan.specs.declared.kinds.Done.{Done}
 use Rattle.plan.specs.Kinds.{quiet}
-use Rattle.execute.specs.declared.Tried.{Tried}
 use Rattle.jump.specs.Jump.{jumping, relative, jaf_of, jar_of}
 use Rattle.execute.specs.Execute.{members, execute_by, execute_of}
-use Rattle.execute.specs.Tried.{swaps, worked_out, tried_by}
+use Rattle.execute.specs.Tried.{swaps, tried_by}
 
 none_of : (x : ℕ) → (x ≡ 37 → ⊥) → (x ≡ 38 → ⊥) → (x ≡ 104 → ⊥) → (x ≡ 105 → ⊥) → swaps x ≡ false
 unfolding swaps
@@ -25,22 +25,10 @@ no_swap x a b c d h =
     let z : ◌≡◌ {A = ℕ} 0 1 = cc in omega arith
 
 -- past the last operation nothing is done
-pub far : (k : ℕ) (r : Regs) (u : Bool) (i : Ins) (s : Spot) (v : ℕ) → 92 ≤ k → worked_out (quiet r) ≡ tried_by k r u i s v
+pub far : (k : ℕ) (r : Regs) (u : Bool) (i : Ins) (s : Spot) (v : ℕ) → 92 ≤ k → Some (quiet r) ≡ tried_by k r u i s v
 unfolding tried_by execute_by
 far k r u i s v h =
     rw (none_of (k + 24) (λ e. omega (arith, h, e)) (λ e. omega (arith, h, e)) (λ e. omega (arith, h, e)) (λ e. omega (arith, h, e)), get_or-eq_default (members r u i s v) (quiet r) h)
-
--- an arm of the match: its number, what its function does, and that it is the operation of that number
-pub arm : (n k : ℕ) (r : Regs) (u : Bool) (i : Ins) (s : Spot) (v : ℕ) (t : Tried) (d e : Done) → t ≡ worked_out d → d ≡ e → k ≡ n →
-    worked_out e ≡ tried_by n r u i s v → t ≡ tried_by k r u i s v
-arm n k r u i s v t d e p q h x = p ∙ ap worked_out q ∙ x ∙ ap (λ z. tried_by z r u i s v) (sym h)
-
--- the last arm of a match of n: the matches behind it
-pub rest_of : (n o k : ℕ) (r : Regs) (u : Bool) (i : Ins) (s : Spot) (v : ℕ) (t : Tried) → n ≤ k → t ≡ tried_by (k - n + (n + o)) r u i s v → t ≡ tried_by (k + o) r u i s v
-rest_of n o k r u i s v t h e = e ∙ ap (λ z. tried_by z r u i s v) (omega (arith, h))
-
-pub rest_first : (n k : ℕ) (r : Regs) (u : Bool) (i : Ins) (s : Spot) (v : ℕ) (t : Tried) → n ≤ k → t ≡ tried_by (k - n + n) r u i s v → t ≡ tried_by k r u i s v
-rest_first n k r u i s v t h e = e ∙ ap (λ z. tried_by z r u i s v) (omega (arith, h))
 
 -- JAF and JAR end with registers alone, whether they jump or not
 quiet_jump : (r : Regs) (t : Bool) (a : ℕ) → quiet (jumping r t a).regs ≡ jumping r t a

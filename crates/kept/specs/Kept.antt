@@ -1,9 +1,8 @@
 -- Kept places: for each page of 4,096 logical addresses and each kind of access the physical address of the page's first byte, where
 -- translation is known to give it. An entry 1, which begins no page, says that nothing is kept.
 -- Seats 0 to 15 are for reads by data, 16 to 31 for reads by program, 32 to 47 for writes by data.
-use Rattle.std.specs.Prelude.{ℕ, ◌+◌, ◌*◌, ◌/◌, ◌%◌, ◌<◌, ◌≤◌, ◌≡◌, Bool, true, false, List, eqb, get_or}
-use Rattle.mmu.specs.declared.Place.TheVariants.{At}
-use Rattle.mmu.specs.Translate.{mode_bits, translating, number_of, placed, translate}
+use Rattle.std.specs.Prelude.{ℕ, ◌+◌, ◌*◌, ◌/◌, ◌%◌, ◌<◌, ◌≤◌, ◌≡◌, Bool, true, false, List, eqb, get_or, Ok}
+use Rattle.mmu.specs.Translate.{mode_bits, translating, number_of, translate}
 
 abbrev pub for_program : (k : ℕ) → Bool
 for_program k = eqb (k / 16) 1
@@ -13,7 +12,7 @@ for_write k = eqb (k / 16) 2
 
 -- The base e of seat k is what translation gives at each address of its page; where it is for writes, the page is marked already.
 pub record Placed (user : Bool) (mmu : ℕ) (ds : List ℕ) (k e : ℕ) : Type 0 where
-  pub at : (a : ℕ) → a < 65536 → a / 4096 ≡ k % 16 → translate mmu user ds (for_program k) (for_write k) a ≡ At (e + a % 4096)
+  pub at : (a : ℕ) → a < 65536 → a / 4096 ≡ k % 16 → translate mmu user ds (for_program k) (for_write k) a ≡ Ok (e + a % 4096)
   pub marked : for_write k ≡ true → (a : ℕ) → a < 65536 → a / 4096 ≡ k % 16 → translating (mode_bits mmu user) ≡ true →
       get_or ds (number_of (mode_bits mmu user) user false a) 0 % 2 ≡ 1
 
@@ -26,7 +25,8 @@ abbrev pub Inside : (kept : List ℕ) (n : ℕ) → Type 0
 Inside kept n = (k : ℕ) → k < 48 → eqb (get_or kept k 0) 1 ≡ false → get_or kept k 0 + 4096 ≤ n
 
 -- What is known of the base e worked out for seat k, where it is one.
-pub record Entered (bits : ℕ) (user : Bool) (ds : List ℕ) (size k e : ℕ) : Type 0 where
-  pub at : placed bits user ds (for_program k) (for_write k) (k % 16 * 4096) ≡ At e
+pub record Entered (user : Bool) (mmu : ℕ) (ds : List ℕ) (size k e : ℕ) : Type 0 where
+  pub at : translate mmu user ds (for_program k) (for_write k) (k % 16 * 4096) ≡ Ok e
   pub fits : e + 4096 ≤ size
-  pub marked : for_write k ≡ true → translating bits ≡ true → get_or ds (number_of bits user false (k % 16 * 4096)) 0 % 2 ≡ 1
+  pub marked : for_write k ≡ true → translating (mode_bits mmu user) ≡ true →
+      get_or ds (number_of (mode_bits mmu user) user false (k % 16 * 4096)) 0 % 2 ≡ 1

@@ -1,6 +1,5 @@
 // Accesses by kept places. Where nothing is kept they change nothing and say so; a word over a page's border counts as not kept.
-ghost use Rattle.std.specs.Prelude.{◌≡◌, Bool, true, false, List, ℕ, ◌+◌, ◌%◌, length};
-ghost use Rattle.board.specs.declared.Got.TheVariants.{Byte};
+ghost use Rattle.std.specs.Prelude.{◌≡◌, Bool, true, false, List, ℕ, ◌+◌, ◌%◌, length, Ok};
 ghost use Rattle.bus.specs.Access.{joined, got_many};
 ghost use Rattle.bus.specs.Leave.{one_write, two_writes};
 ghost use Rattle.bus.specs.Write.{Wrote};
@@ -37,7 +36,7 @@ fn spot(e: u32, a: u16) -> usize
 // The byte at a by data.
 pub fn byte_at(kept: &[u32; 48], w: &[u8], a: u16) -> Found
     requires { Inside kept.now (length w.now) }
-    ensures { (v : ℕ) → result ≡ Is v → (user : Bool) (mmu : ℕ) (ds : List ℕ) → Right kept.now user mmu ds → got_many 1 user mmu ds w.now false a ≡ Byte v }
+    ensures { (v : ℕ) → result ≡ Is v → (user : Bool) (mmu : ℕ) (ds : List ℕ) → Right kept.now user mmu ds → got_many 1 user mmu ds w.now false a ≡ Ok v }
 {
     let e = kept[(a / 4096) as usize];
     let gone = e == 1;
@@ -51,7 +50,7 @@ pub fn byte_at(kept: &[u32; 48], w: &[u8], a: u16) -> Found
 // The word at a by data, in one page.
 pub fn word_at(kept: &[u32; 48], w: &[u8], a: u16) -> Found
     requires { Inside kept.now (length w.now) }
-    ensures { (v : ℕ) → result ≡ Is v → (user : Bool) (mmu : ℕ) (ds : List ℕ) → Right kept.now user mmu ds → got_many 2 user mmu ds w.now false a ≡ Byte v }
+    ensures { (v : ℕ) → result ≡ Is v → (user : Bool) (mmu : ℕ) (ds : List ℕ) → Right kept.now user mmu ds → got_many 2 user mmu ds w.now false a ≡ Ok v }
 {
     let e = kept[(a / 4096) as usize];
     let gone = (e == 1) | (a % 4096 == 4095);
@@ -66,7 +65,7 @@ pub fn word_at(kept: &[u32; 48], w: &[u8], a: u16) -> Found
 pub fn put_one(kept: &[u32; 48], w: &mut [u8], a: u16, b: u8) -> bool
     requires { Inside kept.now (length w.old) }
     ensures w_unchanged { result ≡ false → w.new ≡ w.old }
-    ensures wrote { result ≡ true → (user : Bool) (mmu : ℕ) (ds : List ℕ) → Right kept.now user mmu ds → Wrote user mmu (one_write false a b) (Byte 0) ds w.old ds w.new }
+    ensures wrote { result ≡ true → (user : Bool) (mmu : ℕ) (ds : List ℕ) → Right kept.now user mmu ds → Wrote user mmu (one_write false a b) (Ok tt) ds w.old ds w.new }
 {
     let e = kept[(a / 4096) as usize + 32];
     let gone = e == 1;
@@ -82,7 +81,7 @@ pub fn put_one(kept: &[u32; 48], w: &mut [u8], a: u16, b: u8) -> bool
 pub fn put_two(kept: &[u32; 48], w: &mut [u8], a: u16, v: u16) -> bool
     requires { Inside kept.now (length w.old) }
     ensures w_unchanged { result ≡ false → w.new ≡ w.old }
-    ensures wrote { result ≡ true → (user : Bool) (mmu : ℕ) (ds : List ℕ) → Right kept.now user mmu ds → Wrote user mmu (two_writes false a v) (Byte 0) ds w.old ds w.new }
+    ensures wrote { result ≡ true → (user : Bool) (mmu : ℕ) (ds : List ℕ) → Right kept.now user mmu ds → Wrote user mmu (two_writes false a v) (Ok tt) ds w.old ds w.new }
 {
     let e = kept[(a / 4096) as usize + 32];
     let gone = (e == 1) | (a % 4096 == 4095);

@@ -1,8 +1,7 @@
 -- From logical to physical: the memory unit of the manual's chapter 7 (lines 7817 to 7990), held to document 01.
 -- Truth values: user (else system), program (else data), write (else read). Numbers of descriptors: Table 7-1.
-use Rattle.std.specs.Prelude.{ℕ, ◌+◌, ◌*◌, ◌-◌, ◌/◌, ◌%◌, Bool, true, false, cond, List, eqb, get_or, set}
-use Rattle.mmu.specs.declared.Place.{Place}
-use Rattle.mmu.specs.declared.Place.TheVariants.{At, Violates}
+use Rattle.std.specs.Prelude.{ℕ, ◌+◌, ◌*◌, ◌-◌, ◌/◌, ◌%◌, Bool, true, false, cond, List, eqb, get_or, set, Result, Ok, Err}
+use Rattle.mmu.specs.declared.Violated.{Violated}
 
 -- the bit of a weight
 abbrev pub bit : (weight x : ℕ) → Bool
@@ -66,17 +65,17 @@ unfoldable pub physical : (apart : Bool) (d a : ℕ) → ℕ
 physical apart d a = cond apart (d / 32 * 8192 + a % 8192) (d / 16 * 4096 + a % 4096)
 
 -- by descriptor d, whose number is n
-unfoldable pub by_descriptor : (apart : Bool) (n d : ℕ) (write : Bool) (a : ℕ) → Place
-by_descriptor apart n d write a = cond (barred write d) (Violates n) (At (physical apart d a))
+unfoldable pub by_descriptor : (apart : Bool) (n d : ℕ) (write : Bool) (a : ℕ) → Result ℕ Violated
+by_descriptor apart n d write a = cond (barred write d) (Err (record { descriptor = n })) (Ok (physical apart d a))
 
 -- translation off: the address passes through, zeros above it (7846)
-unfoldable pub placed : (bits : ℕ) (user : Bool) (ds : List ℕ) (program write : Bool) (a : ℕ) → Place
+unfoldable pub placed : (bits : ℕ) (user : Bool) (ds : List ℕ) (program write : Bool) (a : ℕ) → Result ℕ Violated
 placed bits user ds program write a =
     cond (translating bits)
     (by_descriptor (separated bits) (number_of bits user program a) (get_or ds (number_of bits user program a) 0) write a)
-    (At a)
+    (Ok a)
 
-unfoldable pub translate : (control : ℕ) (user : Bool) (ds : List ℕ) (program write : Bool) (a : ℕ) → Place
+unfoldable pub translate : (control : ℕ) (user : Bool) (ds : List ℕ) (program write : Bool) (a : ℕ) → Result ℕ Violated
 translate control user ds program write a = placed (mode_bits control user) user ds program write a
 
 -- M: a page written is marked, where addresses are translated (7859, 7898)

@@ -2,17 +2,25 @@
 #![tactic(auto)]
 
 ghost use Rattle.std.specs.Prelude.{◌≡◌, ◌+◌, ◌<◌, ◌≤◌, ◌%◌, cond, get_or};
-ghost use Rattle.mmu.specs.Translate.{mode_bits, barred, index, number_of, physical, by_descriptor, placed, marked, valid, set_modified, set_valid, change, latched};
+ghost use Rattle.mmu.specs.Translate.{mode_bits, translating, barred, index, number_of, physical, by_descriptor, translate, marked, valid, set_modified, set_valid, change, latched};
 
-// What translation answers: a physical address, or the number of the violated descriptor.
-// A payload of 8 bytes, since an enum of 8 bytes in all is packed and unpacked at each use.
+// An access violation, by the number of the descriptor that bars the access.
+#[derive(Clone, Copy, Debug, PartialEq, Eq)]
+pub struct Violated {
+    pub descriptor: u8,
+}
+
+// How a step's accesses are translated. MMU control is in it for what is promised; the bits are what decides.
 #[derive(Clone, Copy)]
-pub enum Place {
-    At(u64),
-    Violates(u8),
+pub struct Mode {
+    pub user: bool,
+    pub control: u16,
+    pub bits: u8,
+    pub ghost enabled: { bits ≡ mode_bits control user },
 }
 
 // The enable bits of the mode in force, translate 2 and separate 1: worked out once a step, and not at each access.
+#[tactic(auto, unfolding(crate::specs::Translate::mode_bits))]
 pub fn mode_bits(control: u16, user: bool) -> u8
     ensures value { result ≡ mode_bits control user }
     ensures upper_bound { result < 4 }
@@ -32,6 +40,7 @@ fn half_of(program: bool) -> u8
     if program { 8 } else { 0 }
 }
 
+#[tactic(auto, unfolding(crate::specs::Translate::index))]
 fn index_of(apart: bool, program: bool, a: u16) -> u8
     ensures value { result ≡ index apart program a }
     ensures upper_bound { result < 16 }
@@ -59,15 +68,7 @@ fn page_of(apart: bool, user: bool, program: bool, a: u16) -> u8
     first_of(user) + k
 }
 
-// The number of the descriptor that an address is translated by.
-pub fn number_of(bits: u8, user: bool, program: bool, a: u16) -> u8
-    ensures value { result ≡ number_of bits user program a }
-    ensures upper_bound { result < 32 }
-{
-    let apart = bits % 2 == 1;
-    page_of(apart, user, program, a)
-}
-
+#[tactic(auto, unfolding(crate::specs::Translate::barred))]
 fn is_barred(write: bool, d: u16) -> bool
     ensures { result ≡ barred write d }
 {
@@ -79,6 +80,7 @@ fn is_barred(write: bool, d: u16) -> bool
     }
 }
 
+#[tactic(auto, unfolding(crate::specs::Translate::physical))]
 fn physical_of(apart: bool, d: u16, a: u16) -> u64
     ensures { result ≡ physical apart d a }
 {
@@ -89,58 +91,100 @@ fn physical_of(apart: bool, d: u16, a: u16) -> u64
     }
 }
 
-fn by_descriptor(apart: bool, n: u8, d: u16, write: bool, a: u16) -> Place
+#[tactic(auto, unfolding(crate::specs::Translate::by_descriptor))]
+fn by_descriptor(apart: bool, n: u8, d: u16, write: bool, a: u16) -> Result<u64, Violated>
     ensures { result ≡ by_descriptor apart n d write a }
 {
-    let stops = is_barred(write, d);
-    if stops {
-        Place::Violates(n)
-    } else {
-        Place::At(physical_of(apart, d, a))
+    if is_barred(write, d) {
+        return Err(Violated { descriptor: n });
     }
+    Ok(physical_of(apart, d, a))
 }
 
-fn by_page(apart: bool, user: bool, ds: &[u16; 32], program: bool, write: bool, a: u16) -> Place
+fn by_page(
+    apart: bool,
+    user: bool,
+    ds: &[u16; 32],
+    program: bool,
+    write: bool,
+    a: u16,
+) -> Result<u64, Violated>
     ensures { result ≡ by_descriptor apart (cond user 0 16 + index apart program a) (get_or ds.now (cond user 0 16 + index apart program a) 0) write a }
 {
     let n = page_of(apart, user, program, a);
-    let i = n as usize;
-    let d = ds[i];
-    by_descriptor(apart, n, d, write, a)
+    by_descriptor(apart, n, ds[n as usize], write, a)
 }
 
-// Each way of choosing pages is called for by itself: where `apart` is known, an address is a shift and a mask.
-pub fn translate(bits: u8, user: bool, ds: &[u16; 32], program: bool, write: bool, a: u16) -> Place
-    ensures { result ≡ placed bits user ds.now program write a }
-{
-    let on = bits / 2 % 2 == 1;
-    if on {
-        let apart = bits % 2 == 1;
-        if apart {
-            return by_page(true, user, ds, program, write, a);
+impl Mode {
+    pub fn of(control: u16, user: bool) -> Mode
+        ensures control_value { result.control ≡ control }
+        ensures user_value { result.user ≡ user }
+    {
+        let bits = mode_bits(control, user);
+        Mode {
+            user,
+            control,
+            bits,
         }
-        return by_page(false, user, ds, program, write, a);
     }
-    Place::At(a as u64)
+
+    // Whether addresses are translated at all.
+    pub fn translates(self) -> bool
+        ensures { result ≡ translating (mode_bits self.control self.user) }
+    {
+        self.bits / 2 % 2 == 1
+    }
+
+    // The number of the descriptor that an address is translated by.
+    #[tactic(auto, unfolding(crate::specs::Translate::number_of))]
+    pub fn number_of(self, program: bool, a: u16) -> u8
+        ensures value { result ≡ number_of (mode_bits self.control self.user) self.user program a }
+        ensures upper_bound { result < 32 }
+    {
+        let apart = self.bits % 2 == 1;
+        page_of(apart, self.user, program, a)
+    }
+
+    // Each way of choosing pages is called for by itself: where `apart` is known, an address is a shift and a mask.
+    #[tactic(auto, unfolding(crate::specs::Translate::translate, crate::specs::Translate::placed, crate::specs::Translate::number_of))]
+    pub fn translate(
+        self,
+        ds: &[u16; 32],
+        program: bool,
+        write: bool,
+        a: u16,
+    ) -> Result<u64, Violated>
+        ensures { result ≡ translate self.control self.user ds.now program write a }
+    {
+        if !self.translates() {
+            return Ok(u64::from(a));
+        }
+        let apart = self.bits % 2 == 1;
+        if apart {
+            by_page(true, self.user, ds, program, write, a)
+        } else {
+            by_page(false, self.user, ds, program, write, a)
+        }
+    }
+
+    // The page of a write gets its modified bit, where it is translated.
+    #[tactic(auto, unfolding(crate::specs::Translate::marked))]
+    pub fn mark(self, ds: &mut [u16; 32], program: bool, a: u16)
+        ensures { ds.new ≡ marked (mode_bits self.control self.user) self.user program a ds.old }
+    {
+        if self.translates() {
+            let n = self.number_of(program, a);
+            let i = n as usize;
+            let d = modified_of(ds[i]);
+            ds[i] = d;
+        }
+    }
 }
 
 fn modified_of(d: u16) -> u16
     ensures { result ≡ set_modified d }
 {
     d / 2 * 2 + 1
-}
-
-// The page of a write gets its modified bit, where it is translated.
-pub fn mark(bits: u8, user: bool, ds: &mut [u16; 32], program: bool, a: u16)
-    ensures { ds.new ≡ marked bits user program a ds.old }
-{
-    let on = bits / 2 % 2 == 1;
-    if on {
-        let n = number_of(bits, user, program, a);
-        let i = n as usize;
-        let d = modified_of(ds[i]);
-        ds[i] = d;
-    }
 }
 
 fn valid_bit(d: u16) -> bool

@@ -6,6 +6,7 @@ use crate::kinds::{Early, Ins, Stop, low8, low16};
 use regs::{Control, Regs};
 
 // LDCTL whose C names a register that is not built.
+#[tactic(auto, unfolding(crate::specs::Early::left_out))]
 fn left_out(r: Regs, i: Ins) -> bool
     ensures { result ≡ left_out r i }
 {
@@ -13,61 +14,70 @@ fn left_out(r: Regs, i: Ins) -> bool
     ((i.op == 20) | (i.op == 21)) & !((c == 0) | (c == 4) | (c == 6) | (c == 8) | (c == 0x10))
 }
 
+#[tactic(auto, unfolding(crate::specs::Early::barred))]
 fn is_barred(c: Control, i: Ins) -> bool
     ensures { result ≡ barred c i }
 {
     c.user() & ((i.op == 4) | (16 <= i.op) | (6 <= i.op) & (c.tcr / 4 % 2 == 1))
 }
 
+#[tactic(auto, unfolding(crate::specs::Early::halting))]
 fn halt(c: Control, i: Ins) -> Early
     ensures { result ≡ halting c i }
 {
     let breaks = c.msr / 0x1000 % 2 == 1;
     if breaks {
-        return Early::Ends(i.start, Stop::Break(i.start));
+        return Early {
+            pc: i.start,
+            stop: Stop::Break(i.start),
+        };
     }
-    Early::Ends(i.next, Stop::Halted)
+    Early {
+        pc: i.next,
+        stop: Stop::Halted,
+    }
 }
 
+#[tactic(auto, unfolding(crate::specs::Early::port_of))]
 fn port_of(r: Regs, c: Control, i: Ins) -> u32
     ensures { result ≡ port_of r c i }
 {
-    let page = c.iopage as u32 * 65536;
+    let page = u32::from(c.iopage) * 65536;
     let immediate = i.op < 8;
     if immediate {
-        return page + (r.a() as u32 * 256 + low8(i.arg) as u32);
+        return page + (u32::from(r.a()) * 256 + u32::from(low8(i.arg)));
     }
-    page + r.bc as u32
+    page + u32::from(r.bc)
 }
 
-fn event_of(r: Regs, c: Control, i: Ins) -> Early
+// The event of an operation from 4 to 15; PC stays at the instruction but at HALT.
+#[tactic(auto, unfolding(crate::specs::Early::event))]
+fn event_of(r: Regs, c: Control, i: Ins) -> Option<Early>
     ensures { result ≡ event r c i }
 {
-    let halts = i.op == 4;
-    if halts {
-        return halt(c, i);
+    if i.op == 4 {
+        return Some(halt(c, i));
     }
-    let calls = i.op == 5;
-    if calls {
-        return Early::Ends(i.start, Stop::Call(low16(i.arg), i.next));
-    }
-    let wants = i.op < 16;
-    if wants {
-        return Early::Ends(i.start, Stop::Port(port_of(r, c, i), i.op % 2 == 1));
-    }
-    Early::On
+    let stop = if i.op == 5 {
+        Stop::Call(low16(i.arg), i.next)
+    } else if i.op < 16 {
+        Stop::Port(port_of(r, c, i), i.op % 2 == 1)
+    } else {
+        return None;
+    };
+    Some(Early { pc: i.start, stop })
 }
 
-pub fn early_of(r: Regs, c: Control, i: Ins) -> Early
+#[tactic(auto, unfolding(crate::specs::Early::early_of))]
+pub fn early_of(r: Regs, c: Control, i: Ins) -> Option<Early>
     ensures { result ≡ early_of r c i }
 {
-    let out = left_out(r, i);
-    if out {
-        return Early::Ends(i.start, Stop::Nothing(i.start));
-    }
-    let bars = is_barred(c, i);
-    if bars {
-        return Early::Ends(i.start, Stop::Privileged(i.start));
-    }
-    event_of(r, c, i)
+    let stop = if left_out(r, i) {
+        Stop::Nothing(i.start)
+    } else if is_barred(c, i) {
+        Stop::Privileged(i.start)
+    } else {
+        return event_of(r, c, i);
+    };
+    Some(Early { pc: i.start, stop })
 }

@@ -42,11 +42,11 @@ pub struct Spot {
     pub n: u8,
 }
 
-// Stage 3's answer: an event, with the PC that it leaves; or the step goes on.
+// How a step ends in its stages 2 and 3: the event, and the PC that it leaves.
 #[derive(Clone, Copy)]
-pub enum Early {
-    Ends(u16, Stop),
-    On,
+pub struct Early {
+    pub pc: u16,
+    pub stop: Stop,
 }
 
 // What is written at the end: by program or by data, at a logical address; a word low byte first.

@@ -1,6 +1,6 @@
 -- The loop of quick steps against `run`: what holds at its test, and a law for each way on and out, over plain values.
 use Prim.Native.Nat.{ℕ, ◌+◌, ◌≤◌, ◌<◌}
-use mathlib.Core.Path.{◌≡◌, refl, ◌∙◌, ap}
+use mathlib.Core.Path.{◌≡◌, refl, sym, ◌∙◌, ap}
 use mathlib.Core.Bool.{Bool, true, false}
 use mathlib.Core.List.{List}
 use native.Mathlib.Omega.{arith}
@@ -12,7 +12,7 @@ use Rattle.regs.specs.declared.Regs.{Regs}
 use Rattle.regs.specs.declared.Control.{Control}
 use Rattle.regs.specs.Select.{user_of}
 use Rattle.bus.specs.Leave.{event_of, state_of, whole}
-use Rattle.cpu.specs.declared.kinds.Lead.TheVariants as lead
+use Rattle.cpu.specs.Lead as lead
 use Rattle.cpu.specs.Lead.{lead_of}
 use Rattle.cpu.specs.Program.{program}
 use Rattle.cpu.specs.Turns.{completed_turn}
@@ -51,7 +51,7 @@ module _ (limit : ℕ) (user : Bool) (kept : List ℕ) (r₀ : Regs) (w₀ : Lis
     declines a y i h p = rw (← i, p, e, s.keeps h, s.stays h) (g.bound, g.is)
 
     -- a step that was done
-    pub again : ((user : Bool) (mmu : ℕ) (ds : List ℕ) → Right kept user mmu ds → lead_of user mmu ds w r.pc ≡ lead.Code d.o d.b (before d w) d.at) →
+    pub again : ((user : Bool) (mmu : ℕ) (ds : List ℕ) → Right kept user mmu ds → lead_of user mmu ds w r.pc ≡ lead.code d.o d.b (before d w) d.at) →
         x.known ≡ true → k < limit → length l ≡ length w → Going limit user kept r₀ w₀ q l (k + 1)
     unfolding n.step event_of
     again m h lt z =
@@ -65,5 +65,5 @@ module _ (limit : ℕ) (user : Bool) (kept : List ℕ) (r₀ : Regs) (w₀ : Lis
       where
         step : (c : Control) (mmu : ℕ) (ds : List ℕ) → user ≡ user_of c → Right kept user mmu ds → record { state = state_of x.regs c mmu ds l; event = b.completed } ≡ n.step program (state_of r c mmu ds w)
         step c mmu ds u R =
-            turn_code r c mmu ds w (lead_of user mmu ds w r.pc) d.o d.b (before d w) d.at (whole (completed_turn x.regs c mmu) ds l)
-            (ap (λ z. lead_of z mmu ds w r.pc) u) (m user mmu ds R) (s.does h c mmu ds u R)
+            turn_code r c mmu ds w (record { opening = d.o; code = d.b; displacement = before d w; at = d.at }) (whole (completed_turn x.regs c mmu) ds l)
+            (sym (ap (λ z. lead_of z mmu ds w r.pc) u) ∙ m user mmu ds R) (s.does h c mmu ds u R)

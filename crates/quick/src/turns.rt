@@ -4,13 +4,13 @@ ghost use Rattle.std.specs.Prelude.{◌≡◌, Bool, true, false, List, ℕ, ◌
 ghost use Rattle.board.specs.Run.{run, later};
 ghost use Rattle.regs.specs.declared.Control.{Control};
 ghost use Rattle.regs.specs.Select.{user_of};
-ghost use Rattle.decode.specs.Opening.{tabled};
 ghost use Rattle.bus.specs.Leave.{state_of};
 ghost use Rattle.cpu.specs.Program.{program};
 ghost use Rattle.kept.specs.Kept.{Right, Inside};
 
 use crate::act::act;
 use crate::kinds::Quick;
+use decode::Tables;
 use quickfetch::code_at;
 use regs::Regs;
 
@@ -23,16 +23,8 @@ fn leave(r: Regs, n: u16) -> Quick
     }
 }
 
-pub fn quick(
-    r0: Regs,
-    user: bool,
-    kept: &[u32; 48],
-    w: &mut [u8],
-    t: &[[u16; 256]; 9],
-    limit: u16,
-) -> Quick
+pub fn quick(r0: Regs, user: bool, kept: &[u32; 48], w: &mut [u8], t: &Tables, limit: u16) -> Quick
     requires inside { Inside kept.now (length w.old) }
-    requires t_value { t.now ≡ tabled }
     ensures steps_le_limit { result.steps ≤ limit }
     ensures w_value { (c : Control) (mmu : ℕ) (ds : List ℕ) → user ≡ user_of c → Right kept.now user mmu ds → run program limit (state_of r0 c mmu ds w.old) ≡ later result.steps (run program (limit - result.steps) (state_of result.regs c mmu ds w.new)) }
 {

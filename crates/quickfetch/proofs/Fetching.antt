@@ -1,5 +1,6 @@
 -- The quick fetch is the fetch: a law for each way out of its functions, over plain values.
 use Prim.Native.Nat.{ℕ, ◌+◌, ◌-◌, ◌/◌, ◌%◌, ◌≤◌, ◌<◌}
+use Rattle.std.specs.Prelude.{Result}
 use mathlib.Core.Path.{◌≡◌, refl, sym, ◌∙◌, ap}
 use mathlib.Core.Bool.{Bool, true, false, cond, ◌||◌}
 use mathlib.Core.List.{List}
@@ -13,7 +14,8 @@ use Rattle.decode.specs.Dd.{formats_dd}
 use Rattle.decode.specs.Fd.{formats_fd}
 use Rattle.bus.specs.Access.{next, read_from}
 use Rattle.cpu.specs.declared.kinds.Lead.{Lead}
-use Rattle.cpu.specs.declared.kinds.Lead.TheVariants as lead
+use Rattle.board.specs.declared.Fault.{Fault}
+use Rattle.cpu.specs.Lead as lead
 use Rattle.cpu.specs.Lead.{lead_by, lead_fourth, lead_third, lead_second, lead_first, lead_of}
 use Rattle.cpu.proofs.Leads.{opens_nothing}
 use Rattle.kept.specs.Kept.{Right, Inside}
@@ -57,7 +59,7 @@ opening_small o b e = rw e (small_of (eqb b 0xCB) (eqb b 0xED) (eqb b 0xDD) (eqb
 -- ── the site of an instruction ──
 
 abbrev pub LeadBy : Type 0
-LeadBy = (user : Bool) (mmu : ℕ) (ds : List ℕ) → Lead
+LeadBy = (user : Bool) (mmu : ℕ) (ds : List ℕ) → Result Lead Fault
 
 pub unknown : (kept w : List ℕ) (l : LeadBy) (x : Fetch) → x.known ≡ false → Leads kept w l x
 unknown kept w l x h = record { fetched = λ k. absurd (not_both (sym k ∙ h)); is = λ k. absurd (not_both (sym k ∙ h)) }
@@ -95,7 +97,7 @@ module _ (kept w : List ℕ) (pc p : ℕ) (S : Site kept w pc p) where
 
   known : (l : LeadBy) (x : Fetch) (e o b j : ℕ) → x ≡ record { known = true; code = record { e = e; o = o; b = b; at = pc + j; p = p + j } } → j ≤ 4 →
       e ≡ entered o b → (ltb 4 o ≡ true → 2 ≤ j) →
-      ((user : Bool) (mmu : ℕ) (ds : List ℕ) → Right kept user mmu ds → l user mmu ds ≡ lead.Code o b (cond (ltb 4 o) (get_or w (p + j - 2) 0) 0) (pc + j)) → Leads kept w l x
+      ((user : Bool) (mmu : ℕ) (ds : List ℕ) → Right kept user mmu ds → l user mmu ds ≡ lead.code o b (cond (ltb 4 o) (get_or w (p + j - 2) 0) 0) (pc + j)) → Leads kept w l x
   unfolding before
   known l x e o b j ex h ee hb hl =
       record {
@@ -104,14 +106,14 @@ module _ (kept w : List ℕ) (pc p : ℕ) (S : Site kept w pc p) where
       }
 
   module _ (user : Bool) (mmu : ℕ) (ds : List ℕ) (R : Right kept user mmu ds) where
-    by_byte : (j : ℕ) → j ≤ 4 → (f : ℕ → Lead) → lead_by (read_from user mmu ds w true (pc + j)) f ≡ f (get_or w (p + j) 0)
+    by_byte : (j : ℕ) → j ≤ 4 → (f : ℕ → Result Lead Fault) → lead_by (read_from user mmu ds w true (pc + j)) f ≡ f (get_or w (p + j) 0)
     unfolding lead_by
     by_byte j h f = ap (λ g. lead_by g f) (one kept w user mmu ds R S.inside (pc / 4096) S.some S.page (pc + j) (p + j) (same_page j h) (placed j h))
 
   -- ── the fourth byte ──
 
   module _ (o b : ℕ) (h7 : ltb o 7 ≡ true) (h4 : ltb 4 o ≡ true) (hb : b ≡ get_or w (p + 3) 0) (lb : b < 256) (ld : get_or w (p + 2) 0 < 256) where
-    third_is : (user : Bool) (mmu : ℕ) (ds : List ℕ) → Right kept user mmu ds → lead_third user mmu ds w (pc + 2) o ≡ lead.Code o b (cond (ltb 4 o) (get_or w (p + 4 - 2) 0) 0) (pc + 4)
+    third_is : (user : Bool) (mmu : ℕ) (ds : List ℕ) → Right kept user mmu ds → lead_third user mmu ds w (pc + 2) o ≡ lead.code o b (cond (ltb 4 o) (get_or w (p + 4 - 2) 0) 0) (pc + 4)
     unfolding lead_third lead_fourth
     third_is user mmu ds R =
         by_byte user mmu ds R 2 (omega arith) _ ∙

@@ -2,13 +2,13 @@
 #![tactic(auto)]
 
 ghost use Rattle.std.specs.Prelude.{◌≡◌, Bool, true, false, List, ℕ, ◌+◌, ◌%◌, ◌<◌, ltb, length, get_or};
-ghost use Rattle.decode.specs.Opening.{tabled};
+ghost use Rattle.cpu.specs.Lead as lead;
 ghost use Rattle.cpu.specs.Lead.{lead_third, lead_second, lead_first, lead_of};
-ghost use Rattle.cpu.specs.declared.kinds.Lead.TheVariants as lead;
 ghost use Rattle.kept.specs.Kept.{Right, Inside};
 ghost use Rattle.served.specs.Served.{Fetched, before};
 ghost use Rattle.quickfetch.specs.Fetch.{Site, Leads};
 
+use decode::Tables;
 use served::kinds::Code;
 
 // A code; where it isn't known, none.
@@ -38,22 +38,20 @@ fn none() -> Fetch
     Fetch { known: false, code }
 }
 
-fn fourth(kept: &[u32; 48], w: &[u8], t: &[[u16; 256]; 9], pc: u16, p: usize, o: u8, b: u8) -> Fetch
+fn fourth(kept: &[u32; 48], w: &[u8], t: &Tables, pc: u16, p: usize, o: u8, b: u8) -> Fetch
     requires site { Site kept.now w.now pc p }
-    requires t_value { t.now ≡ tabled }
     requires o_value { ltb o 7 ≡ true }
     requires o_value_2 { ltb 4 o ≡ true }
     requires b_value { b ≡ get_or w.now (p + 3) 0 }
     requires p_bound { get_or w.now (p + 2) 0 < 256 }
     ensures { Leads kept.now w.now (λ user mmu ds. lead_third user mmu ds w.now (pc + 2) o) result }
 {
-    code(decode::entry_in(t, o, b), o, b, pc + 4, p + 4)
+    code(t.entry(o, b), o, b, pc + 4, p + 4)
 }
 
 // A second byte that isn't an operation from 24 on: after DD and FD it may be CB, with a displacement before the operation code.
-fn third(kept: &[u32; 48], w: &[u8], t: &[[u16; 256]; 9], pc: u16, p: usize, o: u8, b: u8) -> Fetch
+fn third(kept: &[u32; 48], w: &[u8], t: &Tables, pc: u16, p: usize, o: u8, b: u8) -> Fetch
     requires site { Site kept.now w.now pc p }
-    requires t_value { t.now ≡ tabled }
     ensures { Leads kept.now w.now (λ user mmu ds. lead_second user mmu ds w.now (pc + 2) o b) result }
 {
     let n = decode::after_opening(o, b);
@@ -67,13 +65,12 @@ fn third(kept: &[u32; 48], w: &[u8], t: &[[u16; 256]; 9], pc: u16, p: usize, o: 
     none()
 }
 
-fn second(kept: &[u32; 48], w: &[u8], t: &[[u16; 256]; 9], pc: u16, p: usize, o: u8, b: u8) -> Fetch
+fn second(kept: &[u32; 48], w: &[u8], t: &Tables, pc: u16, p: usize, o: u8, b: u8) -> Fetch
     requires site { Site kept.now w.now pc p }
-    requires t_value { t.now ≡ tabled }
     requires o_value { ltb 4 o ≡ false }
     ensures { Leads kept.now w.now (λ user mmu ds. lead_second user mmu ds w.now (pc + 2) o b) result }
 {
-    let e = decode::entry_in(t, o, b);
+    let e = t.entry(o, b);
     let opens = e < 12288;
     if opens {
         return third(kept, w, t, pc, p, o, b);
@@ -81,9 +78,8 @@ fn second(kept: &[u32; 48], w: &[u8], t: &[[u16; 256]; 9], pc: u16, p: usize, o:
     code(e, o, b, pc + 2, p + 2)
 }
 
-fn opened(kept: &[u32; 48], w: &[u8], t: &[[u16; 256]; 9], pc: u16, p: usize, b: u8) -> Fetch
+fn opened(kept: &[u32; 48], w: &[u8], t: &Tables, pc: u16, p: usize, b: u8) -> Fetch
     requires site { Site kept.now w.now pc p }
-    requires t_value { t.now ≡ tabled }
     ensures { Leads kept.now w.now (λ user mmu ds. lead_first user mmu ds w.now (pc + 1) b) result }
 {
     let o = decode::opening_of(b);
@@ -95,13 +91,12 @@ fn opened(kept: &[u32; 48], w: &[u8], t: &[[u16; 256]; 9], pc: u16, p: usize, b:
 }
 
 // A byte whose entry is an operation from 24 on opens nothing: the usual case, by one test.
-fn first(kept: &[u32; 48], w: &[u8], t: &[[u16; 256]; 9], pc: u16, p: usize, b: u8) -> Fetch
+fn first(kept: &[u32; 48], w: &[u8], t: &Tables, pc: u16, p: usize, b: u8) -> Fetch
     requires site { Site kept.now w.now pc p }
-    requires t_value { t.now ≡ tabled }
     requires b_value { b ≡ get_or w.now p 0 }
     ensures { Leads kept.now w.now (λ user mmu ds. lead_of user mmu ds w.now pc) result }
 {
-    let e = decode::entry_in(t, 0, b);
+    let e = t.entry(0, b);
     let opens = e < 12288;
     if opens {
         return opened(kept, w, t, pc, p, b);
@@ -115,11 +110,10 @@ fn place(base: u32, pc: u16) -> usize
     base as usize + (pc % 4096) as usize
 }
 
-pub fn code_at(kept: &[u32; 48], w: &[u8], t: &[[u16; 256]; 9], pc: u16) -> Fetch
+pub fn code_at(kept: &[u32; 48], w: &[u8], t: &Tables, pc: u16) -> Fetch
     requires inside { Inside kept.now (length w.now) }
-    requires t_value { t.now ≡ tabled }
     ensures fetched { result.known ≡ true → Fetched kept.now w.now result.code }
-    ensures pc_value { result.known ≡ true → (user : Bool) (mmu : ℕ) (ds : List ℕ) → Right kept.now user mmu ds → lead_of user mmu ds w.now pc ≡ lead.Code result.code.o result.code.b (before result.code w.now) result.code.at }
+    ensures pc_value { result.known ≡ true → (user : Bool) (mmu : ℕ) (ds : List ℕ) → Right kept.now user mmu ds → lead_of user mmu ds w.now pc ≡ lead.code result.code.o result.code.b (before result.code w.now) result.code.at }
 {
     let base = kept[16 + (pc / 4096) as usize];
     let gone = (base == 1) | (pc % 4096 > 4080);

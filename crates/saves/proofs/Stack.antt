@@ -1,4 +1,5 @@
 -- Words pushed one after another: what is left of a delivery after each, and its ends.
+use Rattle.std.specs.Prelude.{Result, Ok, Err}
 use Prim.Native.Nat.{ℕ, ◌+◌, ◌/◌, ◌%◌, ◌<◌, ◌≤◌}
 use mathlib.Core.Path.{◌≡◌, refl, sym, ◌∙◌, ap}
 use mathlib.Core.Bool.{false}
@@ -12,8 +13,8 @@ use Rattle.regs.specs.declared.Regs.{Regs}
 use Rattle.regs.specs.declared.Machine.{Machine}
 use Rattle.regs.specs.Change.{with_ssp}
 use Rattle.plan.specs.Kinds.{plus}
-use Rattle.board.specs.declared.Got.{Got}
-use Rattle.board.specs.declared.Got.TheVariants.{Byte, Denied, Lacks}
+use Rattle.board.specs.declared.Fault.{Fault}
+use Rattle.board.specs.declared.Fault.TheVariants.{Denied, Lacks}
 use Rattle.board.specs.Program as b
 use Rattle.bus.specs.Board.{real, load_at}
 use Rattle.bus.specs.Access.{next, room_for}
@@ -30,13 +31,11 @@ use Rattle.saves.specs.Words.{pair_of, pair_for, places_of, places_for, marked_w
 
 -- ── a word's two places ──
 
-pair_in : (g h : Got) (p q : ℕ) → At p q ≡ pair_of g h → (g ≡ Byte p) × (h ≡ Byte q)
+pair_in : (g h : Result ℕ Fault) (p q : ℕ) → At p q ≡ pair_of g h → (g ≡ Ok p) × (h ≡ Ok q)
 unfolding pair_of
-pair_in (Byte x) (Byte y) p q e = (cc, cc)
-pair_in (Byte x) (Denied i) p q e = let z : ◌≡◌ {A = ℕ} 0 1 = cc in absurd (omega arith)
-pair_in (Byte x) (Lacks i) p q e = let z : ◌≡◌ {A = ℕ} 0 1 = cc in absurd (omega arith)
-pair_in (Denied i) h p q e = let z : ◌≡◌ {A = ℕ} 0 1 = cc in absurd (omega arith)
-pair_in (Lacks i) h p q e = let z : ◌≡◌ {A = ℕ} 0 1 = cc in absurd (omega arith)
+pair_in (Ok x) (Ok y) p q e = (cc, cc)
+pair_in (Ok x) (Err d) p q e = let z : ◌≡◌ {A = ℕ} 0 1 = cc in absurd (omega arith)
+pair_in (Err d) h p q e = let z : ◌≡◌ {A = ℕ} 0 1 = cc in absurd (omega arith)
 
 -- what the other side of `let Places::Found(..) = t else` knows
 pub else_lost : (t : Places) → ((p q p2 q2 p3 q3 : ℕ) → t ≡ Found p q p2 q2 p3 q3 → ⊥) → t ≡ Lost
@@ -44,7 +43,7 @@ else_lost (Found p q p2 q2 p3 q3) h = absurd (h p q p2 q2 p3 q3 refl)
 else_lost Lost h = refl
 
 module _ (mmu : ℕ) (ds : List ℕ) (n a p q : ℕ) (g : Pair) (e : g ≡ pair_for mmu ds n a) (h : g ≡ At p q) where
-  found : (room_for false mmu ds n false a ≡ Byte p) × (room_for false mmu ds n false (next a) ≡ Byte q)
+  found : (room_for false mmu ds n false a ≡ Ok p) × (room_for false mmu ds n false (next a) ≡ Ok q)
   unfolding pair_for
   found = pair_in (room_for false mmu ds n false a) (room_for false mmu ds n false (next a)) p q (sym h ∙ e)
 
@@ -87,21 +86,21 @@ module _ (m : Machine) (w : List ℕ) where
   state : b.State real
   state = system m w
 
-  room : ℕ → Got
+  room : ℕ → Result ℕ Fault
   room a = room_for false m.mmu m.ds (length w) false a
 
-  after_both : (g h : Got) (p q : ℕ) (f : ℕ → ℕ → b.Answer real) → At p q ≡ pair_of g h → b.after state g (λ x. b.after state h (λ y. f x y)) ≡ f p q
+  after_both : (g h : Result ℕ Fault) (p q : ℕ) (f : ℕ → ℕ → b.Answer real) → At p q ≡ pair_of g h → b.after state g (λ x. b.after state h (λ y. f x y)) ≡ f p q
   unfolding b.after
   after_both g h p q f e = rw ((pair_in g h p q e).0, (pair_in g h p q e).1)
 
-  after_lost : (i : ℕ) (g h : Got) (f : ℕ → ℕ → b.Answer real) → Nowhere ≡ pair_of g h →
+  after_lost : (i : ℕ) (g h : Result ℕ Fault) (f : ℕ → ℕ → b.Answer real) → Nowhere ≡ pair_of g h →
       vectored m w i (b.after state g (λ x. b.after state h (λ y. f x y))) ≡ refusal 9 m w
   unfolding b.after pair_of vectored all_passed
-  after_lost i (Byte x) (Byte y) f e = let z : ◌≡◌ {A = ℕ} 0 1 = cc in absurd (omega arith)
-  after_lost i (Byte x) (Denied j) f e = refl
-  after_lost i (Byte x) (Lacks j) f e = refl
-  after_lost i (Denied j) h f e = refl
-  after_lost i (Lacks j) h f e = refl
+  after_lost i (Ok x) (Ok y) f e = let z : ◌≡◌ {A = ℕ} 0 1 = cc in absurd (omega arith)
+  after_lost i (Ok x) (Err (Denied j)) f e = refl
+  after_lost i (Ok x) (Err (Lacks j)) f e = refl
+  after_lost i (Err (Denied j)) h f e = refl
+  after_lost i (Err (Lacks j)) h f e = refl
 
   rest : Regs → (a v : ℕ) → List b.Write → (es l : List ℕ) (p q : ℕ) → b.Answer real
   rest r a v xs es l p q = b.writes state r xs (marked_word m.mmu a es) (stored_word p q v l)
@@ -112,14 +111,14 @@ module _ (m : Machine) (w : List ℕ) where
   word_is r a v xs es l = refl
 
   module _ (i : ℕ) where
-    out_both : (g h : Got) (f : ℕ → ℕ → b.Answer real) → ((p q : ℕ) → vectored m w i (f p q) ≡ refusal 9 m w) →
+    out_both : (g h : Result ℕ Fault) (f : ℕ → ℕ → b.Answer real) → ((p q : ℕ) → vectored m w i (f p q) ≡ refusal 9 m w) →
         vectored m w i (b.after state g (λ x. b.after state h (λ y. f x y))) ≡ refusal 9 m w
     unfolding b.after vectored all_passed
-    out_both (Byte x) (Byte y) f e = e x y
-    out_both (Byte x) (Denied j) f e = refl
-    out_both (Byte x) (Lacks j) f e = refl
-    out_both (Denied j) h f e = refl
-    out_both (Lacks j) h f e = refl
+    out_both (Ok x) (Ok y) f e = e x y
+    out_both (Ok x) (Err (Denied j)) f e = refl
+    out_both (Ok x) (Err (Lacks j)) f e = refl
+    out_both (Err (Denied j)) h f e = refl
+    out_both (Err (Lacks j)) h f e = refl
 
     entered_out : (s : b.State real) (x : Option ℕ) → entered m w s x none ≡ refusal 9 m w
     unfolding entered

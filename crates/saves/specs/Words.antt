@@ -1,10 +1,9 @@
 -- What the private functions of delivery answer: a word's two places, a word pushed, a word read, the new status.
-use Rattle.std.specs.Prelude.{ℕ, ◌+◌, ◌*◌, ◌/◌, ◌%◌, false, List, get_or, set}
+use Rattle.std.specs.Prelude.{ℕ, ◌+◌, ◌*◌, ◌/◌, ◌%◌, false, List, get_or, set, Result, Ok, Err}
 use Rattle.regs.specs.declared.Machine.{Machine}
 use Rattle.regs.specs.Change.{with_pc, with_ssp, load_msr}
 use Rattle.mmu.specs.Translate.{mode_bits, marked}
-use Rattle.board.specs.declared.Got.{Got}
-use Rattle.board.specs.declared.Got.TheVariants.{Byte, Denied, Lacks}
+use Rattle.board.specs.declared.Fault.{Fault}
 use Rattle.bus.specs.Access.{next, room_for}
 use Rattle.saves.specs.declared.Delivered.{Delivered}
 use Rattle.saves.specs.declared.places.Pair.{Pair}
@@ -14,12 +13,10 @@ use Rattle.saves.specs.declared.places.Places.TheVariants.{Found, Lost}
 use Rattle.saves.specs.declared.pushing.Word.{Word}
 use Rattle.saves.specs.Saves.{Outcome, pushed, vectored}
 
-unfoldable pub pair_of : Got → Got → Pair
-pair_of (Byte p) (Byte q) = At p q
-pair_of (Byte p) (Denied i) = Nowhere
-pair_of (Byte p) (Lacks x) = Nowhere
-pair_of (Denied i) h = Nowhere
-pair_of (Lacks x) h = Nowhere
+unfoldable pub pair_of : Result ℕ Fault → Result ℕ Fault → Pair
+pair_of (Ok p) (Ok q) = At p q
+pair_of (Ok p) (Err e) = Nowhere
+pair_of (Err e) h = Nowhere
 
 -- where the bytes of a word that is pushed at a go: system mode, data
 unfoldable pub pair_for : (mmu : ℕ) (ds : List ℕ) (size a : ℕ) → Pair

@@ -2,9 +2,10 @@
 ghost use Rattle.std.specs.Prelude.{◌≡◌};
 ghost use Rattle.saves.specs.Words.{pair_for, pair_of, places_of, places_for};
 
-use board::Got;
+use board::Fault;
 use bus::read::next_of;
 use bus::store::room_for;
+use mmu::Mode;
 
 // The physical addresses of the bytes of a word.
 #[derive(Clone, Copy)]
@@ -20,27 +21,24 @@ pub enum Places {
     Lost,
 }
 
-fn pair_of(g: Got, h: Got) -> Pair
+#[tactic(auto, unfolding(crate::specs::Words::pair_of))]
+fn pair_of(g: Result<u64, Fault>, h: Result<u64, Fault>) -> Pair
     ensures { result ≡ pair_of g h }
 {
-    match g {
-        Got::Byte(p) => match h {
-            Got::Byte(q) => Pair::At(p, q),
-            Got::Denied(_) => Pair::Nowhere,
-            Got::Lacks(_) => Pair::Nowhere,
-        },
-        Got::Denied(_) => Pair::Nowhere,
-        Got::Lacks(_) => Pair::Nowhere,
+    match (g, h) {
+        (Ok(p), Ok(q)) => Pair::At(p, q),
+        _ => Pair::Nowhere,
     }
 }
 
 // Where a word that is pushed at a goes: system mode, data, writes.
+#[tactic(auto, unfolding(crate::specs::Words::pair_for))]
 fn pair_for(control: u16, ds: &[u16; 32], size: usize, a: u16) -> Pair
     ensures { result ≡ pair_for control ds.now size a }
 {
-    let bits = mmu::mode_bits(control, false);
-    let g = room_for(false, bits, control, ds, size, false, a);
-    let h = room_for(false, bits, control, ds, size, false, next_of(a));
+    let mode = Mode::of(control, false);
+    let g = room_for(mode, ds, size, false, a);
+    let h = room_for(mode, ds, size, false, next_of(a));
     pair_of(g, h)
 }
 

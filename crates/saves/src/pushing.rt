@@ -3,6 +3,7 @@ ghost use Rattle.std.specs.Prelude.{◌≡◌, ◌<◌, length};
 ghost use Rattle.saves.specs.Words.{word_of, marking, storing};
 
 use bus::read::next_of;
+use mmu::Mode;
 
 // A word to be stored, its logical address, and the physical addresses of its bytes.
 #[derive(Clone, Copy)]
@@ -34,9 +35,9 @@ fn push(control: u16, ds: &mut [u16; 32], w: &mut [u8], x: Word)
     let j = x.high as usize;
     w[i] = (x.value % 256) as u8;
     w[j] = (x.value / 256) as u8;
-    let bits = mmu::mode_bits(control, false);
-    mmu::mark(bits, false, ds, false, x.at);
-    mmu::mark(bits, false, ds, false, next_of(x.at));
+    let mode = Mode::of(control, false);
+    mode.mark(ds, false, x.at);
+    mode.mark(ds, false, next_of(x.at));
 }
 
 pub fn push_two(control: u16, ds: &mut [u16; 32], w: &mut [u8], x: Word, y: Word)

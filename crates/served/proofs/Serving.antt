@@ -1,11 +1,11 @@
 -- A quick step is the step: from the parts of an instruction to the execution of its program, over plain values.
+use Rattle.std.specs.Prelude.{Ok}
 use Prim.Native.Nat.{ℕ, ◌%◌, ◌≤◌}
 use mathlib.Core.Path.{◌≡◌, refl, sym, ◌∙◌, ap}
 use mathlib.Core.Bool.{Bool, true, false, cond}
 use mathlib.Core.List.{List}
-use lib.Dec.{eqb, ltb}
+use lib.Dec.{ltb}
 use Rattle.board.specs.Program as b
-use Rattle.board.specs.declared.Got.TheVariants.{Byte}
 use Rattle.regs.specs.declared.Regs.{Regs}
 use Rattle.regs.specs.Change.{with_pc}
 use Rattle.regs.specs.Select.{user_of, index_of, sp_of}
@@ -13,7 +13,7 @@ use Rattle.decode.specs.Entry.{op_in, bytes_in}
 use Rattle.plan.specs.declared.kinds.Ins.{Ins}
 use Rattle.plan.specs.declared.kinds.Spot.{Spot}
 use Rattle.plan.specs.declared.kinds.Done.{Done}
-use Rattle.plan.specs.declared.kinds.Early.TheVariants.{On}
+use Rattle.std.specs.Prelude.{None}
 use Rattle.plan.specs.declared.kinds.Write.TheVariants.{Nothing}
 use Rattle.plan.specs.Kinds.{quiet, byte, word}
 use Rattle.plan.specs.Places.{spot_of, data_at, met}
@@ -67,19 +67,19 @@ module _ (keeps w l : List ℕ) (u : Bool) (r : Regs) (q : Code) (F : Fetched ke
 
   -- the operand is v
   abbrev Operand : Type 0
-  Operand = (mmu : ℕ) (ds : List ℕ) → Right keeps u mmu ds → got_many (count S.n) u mmu ds w S.program S.a ≡ Byte v
+  Operand = (mmu : ℕ) (ds : List ℕ) → Right keeps u mmu ds → got_many (count S.n) u mmu ds w S.program S.a ≡ Ok v
 
   -- the instruction is one that a quick step may be
   abbrev Known : Type 0
   Known = (ltb E 2048 ≡ false) × ((ltb (op_in E) 24 ≡ false) × ((bytes_in E ≡ k) × ((count k ≡ k) × (k ≤ 4))))
 
   serves : (D : Done) → q.e ≡ E → Known → Operand → D ≡ execute_of (with_pc I.next r) u I S (v % 4294967296) →
-      ((mmu : ℕ) (ds : List ℕ) → Right keeps u mmu ds → Wrote u mmu (listed D.write) (Byte 0) ds w ds l) → Serves keeps u r q w l D.regs
+      ((mmu : ℕ) (ds : List ℕ) → Right keeps u mmu ds → Wrote u mmu (listed D.write) (Ok tt) ds w ds l) → Serves keeps u r q w l D.regs
   unfolding early ins_of b.after b.finish event_of
   serves D te (h2, (h24, (hk, (hc, hl)))) hr hd hw c mmu ds eu R =
       form_on r c mmu ds w q.o q.b (before q w) q.at E k (behind k w q.p) (got_many k u mmu ds w true q.at) I A
       (sym te ∙ F.entry) h2 (sym hk) (ap (λ z. got_many k z mmu ds w true q.at) eu ∙ ap (λ z. got_many z (user_of c) mmu ds w true q.at) (sym hc)) (behind_is keeps w q F k hl u mmu ds R) refl
-      (judge_on r c mmu ds w I On u S A (rw h24) refl eu refl
+      (judge_on r c mmu ds w I None u S A (rw h24) refl eu refl
       (operate_on r c mmu ds w I S v (got_many (count S.n) u mmu ds w S.program S.a) A (ap (λ z. got_many (count S.n) z mmu ds w S.program S.a) eu) (hr mmu ds R)
       (work_done r c mmu ds w I S (v % 4294967296) (with_pc I.next r) u D A refl h24 eu hd ((hw mmu ds R).ends r D.regs c (sym eu)))))
     where
@@ -115,8 +115,8 @@ module _ (keeps w : List ℕ) (u : Bool) (r : Regs) (q : Code) (F : Fetched keep
     there = ed ∙ rw (et, es, Q te)
 
     -- n bytes are read at s by data, and what is written is written
-    pub moves : (n : ℕ) → ((user : Bool) (mmu : ℕ) (ds : List ℕ) → Right keeps user mmu ds → got_many n user mmu ds w false s.a ≡ Byte v) →
-        ((user : Bool) (mmu : ℕ) (ds : List ℕ) → Right keeps user mmu ds → Wrote user mmu (listed D.write) (Byte 0) ds w ds l) →
+    pub moves : (n : ℕ) → ((user : Bool) (mmu : ℕ) (ds : List ℕ) → Right keeps user mmu ds → got_many n user mmu ds w false s.a ≡ Ok v) →
+        ((user : Bool) (mmu : ℕ) (ds : List ℕ) → Right keeps user mmu ds → Wrote user mmu (listed D.write) (Ok tt) ds w ds l) →
         x ≡ record { regs = D.regs; known = true } → Quick E k → count (spot_of u r (ins E k r q w)).n ≡ n → (spot_of u r (ins E k r q w)).program ≡ false →
         f (with_pc (ins E k r q w).next r) (ins E k r q w) (spot_of u r (ins E k r q w)) (v % 4294967296) ≡
         execute_of (with_pc (ins E k r q w).next r) u (ins E k r q w) (spot_of u r (ins E k r q w)) (v % 4294967296) → Served keeps u r q w l x
@@ -125,12 +125,12 @@ module _ (keeps w : List ℕ) (u : Bool) (r : Regs) (q : Code) (F : Fetched keep
         (serves keeps w l u r q F E k v D te kn (λ mmu ds R. rw (hc, hp, ← es) (hr u mmu ds R)) (there ∙ hf) (λ mmu ds R. hw u mmu ds R))
 
 -- no byte is read
-pub no_read : (w : List ℕ) (a : ℕ) (user : Bool) (mmu : ℕ) (ds : List ℕ) → got_many 0 user mmu ds w false a ≡ Byte 0
+pub no_read : (w : List ℕ) (a : ℕ) (user : Bool) (mmu : ℕ) (ds : List ℕ) → got_many 0 user mmu ds w false a ≡ Ok 0
 unfolding got_many
 no_read w a user mmu ds = refl
 
 -- nothing is written
-pub no_write : (w : List ℕ) (D e : Done) → D ≡ e → e.write ≡ Nothing → (user : Bool) (mmu : ℕ) (ds : List ℕ) → Wrote user mmu (listed D.write) (Byte 0) ds w ds w
+pub no_write : (w : List ℕ) (D e : Done) → D ≡ e → e.write ≡ Nothing → (user : Bool) (mmu : ℕ) (ds : List ℕ) → Wrote user mmu (listed D.write) (Ok tt) ds w ds w
 unfolding listed
 no_write w D e p h user mmu ds = rw (p, h) (no_writes user mmu ds w)
 

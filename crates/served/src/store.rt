@@ -1,6 +1,5 @@
 // The write of a quick step, by kept places.
-ghost use Rattle.std.specs.Prelude.{◌≡◌, Bool, true, false, List, ℕ, length};
-ghost use Rattle.board.specs.declared.Got.TheVariants.{Byte};
+ghost use Rattle.std.specs.Prelude.{◌≡◌, Bool, true, false, List, ℕ, length, Ok};
 ghost use Rattle.bus.specs.Leave.{listed};
 ghost use Rattle.bus.specs.Write.{Wrote};
 ghost use Rattle.kept.specs.Kept.{Right, Inside};
@@ -13,7 +12,7 @@ use plan::kinds::Write;
 pub fn put_byte(kept: &[u32; 48], w: &mut [u8], m: Write) -> bool
     requires { Inside kept.now (length w.old) }
     ensures w_unchanged { result ≡ false → w.new ≡ w.old }
-    ensures wrote { result ≡ true → (user : Bool) (mmu : ℕ) (ds : List ℕ) → Right kept.now user mmu ds → Wrote user mmu (listed m) (Byte 0) ds w.old ds w.new }
+    ensures wrote { result ≡ true → (user : Bool) (mmu : ℕ) (ds : List ℕ) → Right kept.now user mmu ds → Wrote user mmu (listed m) (Ok tt) ds w.old ds w.new }
 {
     let Write::One(program, a, b) = m else {
         return false;
@@ -38,7 +37,7 @@ fn is_nothing(m: Write) -> bool
 pub fn put_word(kept: &[u32; 48], w: &mut [u8], m: Write) -> bool
     requires { Inside kept.now (length w.old) }
     ensures w_unchanged { result ≡ false → w.new ≡ w.old }
-    ensures wrote { result ≡ true → (user : Bool) (mmu : ℕ) (ds : List ℕ) → Right kept.now user mmu ds → Wrote user mmu (listed m) (Byte 0) ds w.old ds w.new }
+    ensures wrote { result ≡ true → (user : Bool) (mmu : ℕ) (ds : List ℕ) → Right kept.now user mmu ds → Wrote user mmu (listed m) (Ok tt) ds w.old ds w.new }
 {
     let none = is_nothing(m);
     if none {

@@ -3,15 +3,17 @@
 
 ghost use Rattle.std.specs.Prelude.{◌≡◌};
 ghost use Rattle.board.specs.Run.{run};
-ghost use Rattle.mmu.specs.Translate.{mode_bits};
 ghost use Rattle.cpu.specs.Program.{program};
 ghost use Rattle.cpu.specs.Machine.{machine_state};
 ghost use Rattle.steps.specs.Ran.{ran_of, stops_at};
-ghost use Rattle.steps.specs.Table.{Table};
 
+mod table;
+
+use crate::table::Held;
 use bus::kinds::Event;
 use cpu::step::step;
-use kept::table::{alike, fill};
+use decode::Tables;
+use mmu::Mode;
 use quick::turns::quick;
 use regs::{Control, Machine, Regs};
 
@@ -34,44 +36,14 @@ fn ended(regs: Regs, ctl: Control, mmu: u16, ds: [u16; 32], event: Event, steps:
     }
 }
 
+#[tactic(auto, unfolding(crate::specs::Ran::stops_at))]
 fn stops(e: Event) -> bool
     ensures { result ≡ stops_at e }
 {
-    match e {
-        Event::Completed => false,
-        Event::Violation(_, _) => true,
-        Event::Absent(_) => true,
-        Event::Stopped(_) => true,
-    }
+    !matches!(e, Event::Completed)
 }
 
-// The table for this mode and these descriptors, filled anew where it is another's. The mode's bits.
-fn refresh(
-    user: bool,
-    control: u16,
-    ds: &[u16; 32],
-    size: usize,
-    user0: bool,
-    bits0: u8,
-    ds0: &[u16; 32],
-    kept: &mut [u32; 48],
-) -> u8
-    requires { Table kept.old user0 bits0 ds0.now size }
-    ensures table { Table kept.new user result ds.now size }
-    ensures value { result ≡ mode_bits control user }
-{
-    let bits = mmu::mode_bits(control, user);
-    let same = (bits == bits0) & (user == user0);
-    if same {
-        let still = alike(ds0, ds);
-        if still {
-            return bits;
-        }
-    }
-    fill(user, bits, control, ds, size, kept);
-    bits
-}
-
+// No `for`: a turn is a step and as many quick steps as follow it.
 pub fn run_steps(m: Machine, w: &mut [u8], budget: u16) -> Ran
     ensures { ran_of result w.new ≡ run program budget (machine_state m w.old) }
 {
@@ -79,33 +51,24 @@ pub fn run_steps(m: Machine, w: &mut [u8], budget: u16) -> Ran
     let mut c = m.ctl;
     let mut control = m.mmu;
     let mut ds = m.ds;
-    let tables = decode::tables();
-    let mut kept = [1u32; 48];
-    let mut kds = m.ds;
-    let mut kbits: u8 = 4; // no mode's: so the first table is filled
-    let mut kuser = false;
+    let tables = Tables::new();
+    let mut held = Held::new(w.len());
     let mut n: u16 = 0;
     while n < budget {
         let t = step(r, c, control, &mut ds, w, &tables);
-        let e = t.event;
-        let q = t.regs;
-        let k = t.ctl;
-        let over = stops(e);
+        let over = stops(t.event);
         if over {
-            return ended(q, k, t.mmu, ds, e, n);
+            return ended(t.regs, t.ctl, t.mmu, ds, t.event, n);
         }
-        r = q;
-        c = k;
+        r = t.regs;
+        c = t.ctl;
         control = t.mmu;
         n = n + 1;
         if n < budget {
-            let user = c.user();
-            kbits = refresh(user, control, &ds, w.len(), kuser, kbits, &kds, &mut kept);
-            kuser = user;
-            kds = ds;
-            let y = quick(r, user, &kept, w, &tables, budget - n);
-            let z = y.regs;
-            r = z;
+            let mode = Mode::of(control, c.user());
+            held.refresh(mode, &ds);
+            let y = quick(r, mode.user, &held.places, w, &tables, budget - n);
+            r = y.regs;
             n = n + y.steps;
         }
     }

@@ -1,15 +1,15 @@
 -- A violation names one of the 32 descriptors: translation has no other number to give.
+use Rattle.std.specs.Prelude.{Result, Ok, Err}
 use Prim.Native.Nat.{ℕ, zero, suc, ◌<◌}
 use mathlib.Core.Path.{◌≡◌}
 use mathlib.Core.Bool.{Bool, true, false, cond}
 use mathlib.Core.List.{List, [], ◌∷◌}
 use mathlib.Core.Option.{Option, none, some}
 use native.Mathlib.Omega.{arith}
-use Rattle.mmu.specs.declared.Place.{Place}
-use Rattle.mmu.specs.declared.Place.TheVariants.{At, Violates}
+use Rattle.mmu.specs.declared.Violated.{Violated}
 use Rattle.mmu.specs.Translate.{mode_bits, separated, translating, index, number_of, barred, by_descriptor, placed, translate}
-use Rattle.board.specs.declared.Got.{Got}
-use Rattle.board.specs.declared.Got.TheVariants.{Byte, Denied, Lacks}
+use Rattle.board.specs.declared.Fault.{Fault}
+use Rattle.board.specs.declared.Fault.TheVariants.{Denied, Lacks}
 use Rattle.board.specs.Program.{Board, Prog, read, done, govern, stop, Write, State, Event, completed, violation, absent, other, Answer, through, from_memory, if_room, in_user, read_byte, write_to, after, touch, finish, writes, halted, exec}
 use Rattle.board.specs.Run.{Program, Ran, step, ended, later, go_on, run}
 
@@ -26,16 +26,16 @@ unfolding number_of
 number_below bits true program a = omega (arith, index_below (separated bits) program a)
 number_below bits false program a = omega (arith, index_below (separated bits) program a)
 
-PlaceBelow : Place → Type 0
-PlaceBelow (At p) = Unit
-PlaceBelow (Violates i) = i < 32
+PlaceBelow : Result ℕ Violated → Type 0
+PlaceBelow (Ok p) = Unit
+PlaceBelow (Err v) = v.descriptor < 32
 
-either : (b : Bool) (i p : ℕ) → i < 32 → PlaceBelow (cond b (Violates i) (At p))
+either : (b : Bool) (i p : ℕ) → i < 32 → PlaceBelow (cond b (Err (record { descriptor = i })) (Ok p))
 unfolding PlaceBelow
 either true i p h = h
 either false i p h = tt
 
-chosen : (b : Bool) (x y : Place) → PlaceBelow x → PlaceBelow y → PlaceBelow (cond b x y)
+chosen : (b : Bool) (x y : Result ℕ Violated) → PlaceBelow x → PlaceBelow y → PlaceBelow (cond b x y)
 chosen true x y h k = h
 chosen false x y h k = k
 
@@ -43,14 +43,14 @@ place_below : (control : ℕ) (user : Bool) (ds : List ℕ) (program write : Boo
 unfolding PlaceBelow translate placed by_descriptor
 place_below control user ds program write a =
     let bits : ℕ = mode_bits control user in
-    chosen (translating bits) _ (At a) (either (barred write _) _ _ (number_below bits user program a)) tt
+    chosen (translating bits) _ (Ok a) (either (barred write _) _ _ (number_below bits user program a)) tt
 
 -- ---- accesses
 
-GotBelow : Got → Type 0
-GotBelow (Byte b) = Unit
-GotBelow (Denied i) = i < 32
-GotBelow (Lacks p) = Unit
+GotBelow : Result ℕ Fault → Type 0
+GotBelow (Ok b) = Unit
+GotBelow (Err (Denied i)) = i < 32
+GotBelow (Err (Lacks p)) = Unit
 
 loaded : (p : ℕ) (x : Option ℕ) → GotBelow (from_memory p x)
 unfolding GotBelow from_memory
@@ -62,10 +62,10 @@ unfolding GotBelow if_room
 roomy p true = tt
 roomy p false = tt
 
-through_below : (f : ℕ → Got) (x : Place) → ((p : ℕ) → GotBelow (f p)) → PlaceBelow x → GotBelow (through f x)
+through_below : (f : ℕ → Result ℕ Fault) (x : Result ℕ Violated) → ((p : ℕ) → GotBelow (f p)) → PlaceBelow x → GotBelow (through f x)
 unfolding through GotBelow PlaceBelow
-through_below f (At p) h k = h p
-through_below f (Violates i) h k = k
+through_below f (Ok p) h k = h p
+through_below f (Err v) h k = k
 
 -- ---- steps and runs
 
@@ -76,11 +76,11 @@ module _ {B : Board} where
   EventBelow (absent p) = Unit
   EventBelow (other e) = Unit
 
-  after_below : (s : State B) (g : Got) (f : ℕ → Answer B) → GotBelow g → ((b : ℕ) → EventBelow (f b).event) → EventBelow (after s g f).event
+  after_below : (s : State B) (g : Result ℕ Fault) (f : ℕ → Answer B) → GotBelow g → ((b : ℕ) → EventBelow (f b).event) → EventBelow (after s g f).event
   unfolding after GotBelow EventBelow
-  after_below s (Byte b) f h k = k b
-  after_below s (Denied i) f h k = h
-  after_below s (Lacks p) f h k = tt
+  after_below s (Ok b) f h k = k b
+  after_below s (Err (Denied i)) f h k = h
+  after_below s (Err (Lacks p)) f h k = tt
 
   writes_below : (s : State B) (r : B.R) (xs : List Write) (ds : List ℕ) (m : B.M) → EventBelow (writes s r xs ds m).event
   unfolding writes finish EventBelow write_to

@@ -1,4 +1,5 @@
 -- What no step changes: the valid marks, memory's length, and that no bit is set that may not be.
+use Rattle.std.specs.Prelude.{Option, Some, None, Result, Ok, Err}
 use Prim.Native.Nat.{ℕ, zero, suc, ◌%◌}
 use mathlib.Core.Path.{◌≡◌, refl, ◌∙◌}
 use mathlib.Core.Bool.{Bool, true, false, cond}
@@ -8,8 +9,8 @@ use lib.Dec.{eqb, ltb}
 use lib.ListN.{length, get_or, length-set}
 use Rattle.mmu.specs.Translate.{mode_bits, translating, number_of, valid, set_modified, change, marked}
 use Rattle.mmu.proofs.Marks.{valid_modified, get_or_change}
-use Rattle.board.specs.declared.Got.{Got}
-use Rattle.board.specs.declared.Got.TheVariants.{Byte, Denied, Lacks}
+use Rattle.board.specs.declared.Fault.{Fault}
+use Rattle.board.specs.declared.Fault.TheVariants.{Denied, Lacks}
 use Rattle.board.specs.Program.{Prog, read, done, govern, stop, Write, State, Event, completed, violation, absent, other, Answer, in_user, write_to, read_byte, faulted, after, touch, finish, writes, halted, exec}
 use Rattle.board.specs.Run.{step, ended, later, go_on, run}
 use Rattle.decode.specs.Opening.{opening_of, after_opening, entered}
@@ -21,7 +22,6 @@ use Rattle.regs.specs.Select.{user_of}
 use Rattle.plan.specs.declared.kinds.Ins.{Ins}
 use Rattle.plan.specs.declared.kinds.Spot.{Spot}
 use Rattle.plan.specs.declared.kinds.Early.{Early}
-use Rattle.plan.specs.declared.kinds.Early.TheVariants.{Ends, On}
 use Rattle.plan.specs.Places.{spot_of}
 use Rattle.govern.specs.Govern.{govern_of}
 use Rattle.execute.specs.Execute.{execute_of}
@@ -54,10 +54,10 @@ module _ (r : Regs) (c : Control) (h : Fine c) where
       either (ltb i.op 24) (ruled (govern_of (with_pc i.next r) c i v))
       (finished (execute_of (with_pc i.next r) (user_of c) i s v)) (govern_fine (with_pc i.next r) c i v h) tt
 
-  went_governs : (i : Ins) (e : Early) → Governs (went r c i e)
+  went_governs : (i : Ins) (e : Option Early) → Governs (went r c i e)
   unfolding went operated Governs
-  went_governs i (Ends pc e) = tt
-  went_governs i On =
+  went_governs i (Some e) = tt
+  went_governs i None =
       let s : Spot = spot_of (user_of c) r i in
       many_governs (count s.n) s.program s.a _ (λ v. worked_governs i s _)
 
@@ -112,11 +112,11 @@ module _ (ds : List ℕ) (n : ℕ) (c : Control) (mmu : ℕ) where
   store_lasts p b es w h = record { ctl = h.ctl; mmu = h.mmu; marks = h.marks; long = length-set w p b ∙ h.long }
 
 module _ (ds : List ℕ) (n : ℕ) (s : State real) (h : Lasts ds n s) where
-  after_lasts : (g : Got) (f : ℕ → Answer real) → ((b : ℕ) → Lasts ds n (f b).state) → Lasts ds n (after s g f).state
+  after_lasts : (g : Result ℕ Fault) (f : ℕ → Answer real) → ((b : ℕ) → Lasts ds n (f b).state) → Lasts ds n (after s g f).state
   unfolding after faulted
-  after_lasts (Byte b) f k = k b
-  after_lasts (Denied i) f k = record { ctl = h.ctl; mmu = latched_allowed i s.mmu h.mmu; marks = h.marks; long = h.long }
-  after_lasts (Lacks p) f k = h
+  after_lasts (Ok b) f k = k b
+  after_lasts (Err (Denied i)) f k = record { ctl = h.ctl; mmu = latched_allowed i s.mmu h.mmu; marks = h.marks; long = h.long }
+  after_lasts (Err (Lacks p)) f k = h
 
   pub writes_lasts : (r : Regs) (xs : List Write) (es w : List ℕ) → Lasting ds n s.ctl s.mmu es w → Lasts ds n (writes s r xs es w).state
   unfolding writes finish touch marked

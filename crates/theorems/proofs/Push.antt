@@ -1,4 +1,5 @@
 -- P11: a user PUSH whose two bytes lie in pages 0 and 1.
+use Rattle.std.specs.Prelude.{Result, Ok, Err}
 use Prim.Native.Nat.{ℕ, zero, suc, ◌+◌, ◌*◌, ◌/◌, ◌%◌, ◌<◌}
 use mathlib.Core.Path.{◌≡◌, refl, ◌∙◌, ap}
 use mathlib.Core.Bool.{true, false}
@@ -7,8 +8,8 @@ use native.Mathlib.Omega.{arith}
 use lib.ListN.{length, get_or}
 use borrow.Author.Tests.{lt-ltb}
 use Rattle.mmu.specs.Translate.{mode_bits, number_of, index, valid, barred, physical, by_descriptor, placed, translate}
-use Rattle.board.specs.declared.Got.{Got}
-use Rattle.board.specs.declared.Got.TheVariants.{Byte, Denied}
+use Rattle.board.specs.declared.Fault.{Fault}
+use Rattle.board.specs.declared.Fault.TheVariants.{Denied}
 use Rattle.board.specs.Program.{Prog, done, violation, State, through, from_memory, if_room, read_byte, write_to, faulted, after, writes, finish, exec, completed, Write}
 use Rattle.board.specs.Run.{step}
 use Rattle.decode.specs.Opening.{opening_of, entered}
@@ -53,7 +54,7 @@ module _ (q d2 : ℕ) (rest : List ℕ) (r : Regs) (c : Control) (mem : List ℕ
   at mmu e0 e1 = state_of r c mmu (e0 ∷ e1 ∷ d2 ∷ rest) mem
 
   module _ (mmu e0 e1 : ℕ) (mode : mode_bits mmu true ≡ 2) where
-    fetched : read_byte (at mmu e0 e1) true r.pc ≡ Byte (0xC5 + 16 * q)
+    fetched : read_byte (at mmu e0 e1) true r.pc ≡ Ok (0xC5 + 16 * q)
     unfolding read_byte through from_memory load_at translate placed number_of index by_descriptor barred physical
     fetched = rw (u, mode, page, h2.good, lt-ltb (byte_in d2 r.pc) (length mem) (bound d2 r.pc (length mem) h2.there), code)
 
@@ -67,14 +68,14 @@ module _ (q d2 : ℕ) (rest : List ℕ) (r : Regs) (c : Control) (mem : List ℕ
     unfolding step program leading exec after low high
     stepped =
         let s : State real = at mmu e0 e1 in
-        ap (λ (g : Got). after s g (λ b. exec (first (formed r c) (next r.pc) (b % 256)) s)) fetched ∙
+        ap (λ (g : Result ℕ Fault). after s g (λ b. exec (first (formed r c) (next r.pc) (b % 256)) s)) fetched ∙
         ap (λ (p : Prog real). exec p s) (is_push q pair r c u sp)
 
-    shut : (x : Write) (i e : ℕ) → number_of 2 true x.program x.addr ≡ i → get_or (e0 ∷ e1 ∷ d2 ∷ rest) i 0 ≡ e → valid e ≡ false → write_to (at mmu e0 e1) x ≡ Denied i
+    shut : (x : Write) (i e : ℕ) → number_of 2 true x.program x.addr ≡ i → get_or (e0 ∷ e1 ∷ d2 ∷ rest) i 0 ≡ e → valid e ≡ false → write_to (at mmu e0 e1) x ≡ Err (Denied i)
     unfolding write_to through translate placed by_descriptor barred
     shut x i e n d v = rw (u, mode, n, d, v)
 
-    passes : (x : Write) (i e : ℕ) → number_of 2 true x.program x.addr ≡ i → get_or (e0 ∷ e1 ∷ d2 ∷ rest) i 0 ≡ e → Backed e (length mem) → write_to (at mmu e0 e1) x ≡ Byte (byte_in e x.addr)
+    passes : (x : Write) (i e : ℕ) → number_of 2 true x.program x.addr ≡ i → get_or (e0 ∷ e1 ∷ d2 ∷ rest) i 0 ≡ e → Backed e (length mem) → write_to (at mmu e0 e1) x ≡ Ok (byte_in e x.addr)
     unfolding write_to through if_room translate placed by_descriptor barred physical
     passes x i e n d b = rw (u, mode, n, d, b.good, b.free, lt-ltb (byte_in e x.addr) (length mem) (bound e x.addr (length mem) b.there))
 

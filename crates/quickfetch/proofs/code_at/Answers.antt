@@ -15,7 +15,6 @@ pub first-requires : goal.first-requires
 first-requires c =
     record {
       site = site _ _ c.args.pc _ (omega (arith, c.ranges.pc)) c.requires.inside c.if-gone.false c.place-p.ensures;
-      t_value = c.requires.t_value;
       b_value = refl;
     }
 

@@ -14,4 +14,4 @@ pub overflow_add-p : goal.overflow_add-p
 overflow_add-p c = omega (arith, reach _ _ _ _ c.requires.site 1 (omega arith))
 
 pub returns : goal.returns
-returns c = at_first _ _ _ _ c.requires.site _ c.requires.b_value (omega (arith, c.ranges.b)) _ _ c.entry_in-e.ensures (le-ltb _ _ c.if-opens.false) c.code.ensures
+returns c = at_first _ _ _ _ c.requires.site _ c.requires.b_value (omega (arith, c.ranges.b)) _ _ c.entry-e.ensures (le-ltb _ _ c.if-opens.false) c.code.ensures

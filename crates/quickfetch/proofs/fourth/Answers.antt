@@ -10,4 +10,4 @@ pub overflow_add-p : goal.overflow_add-p
 overflow_add-p c = omega (arith, reach _ _ _ _ c.requires.site 4 (omega arith))
 
 pub returns : goal.returns
-returns c = at_fourth _ _ _ _ c.requires.site _ _ c.requires.o_value c.requires.o_value_2 c.requires.b_value (omega (arith, c.ranges.b)) c.requires.p_bound _ _ c.entry_in.ensures c.code.ensures
+returns c = at_fourth _ _ _ _ c.requires.site _ _ c.requires.o_value c.requires.o_value_2 c.requires.b_value (omega (arith, c.ranges.b)) c.requires.p_bound _ _ c.entry.ensures c.code.ensures

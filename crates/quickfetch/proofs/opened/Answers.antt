@@ -16,7 +16,7 @@ pub bounds-w-p : goal.bounds-w-p
 bounds-w-p c = reach _ _ _ _ c.requires.site 1 (omega arith)
 
 pub second-requires : goal.second-requires
-second-requires c = record { site = c.requires.site; t_value = c.requires.t_value; o_value = opening_small _ _ c.opening_of-o.ensures }
+second-requires c = record { site = c.requires.site; o_value = opening_small _ _ c.opening_of-o.ensures }
 
 pub returns : goal.returns
 returns c = at_opened _ _ _ _ c.requires.site _ _ _ _ c.opening_of-o.ensures (ne_eqb _ _ c.if-plain.false) refl (omega (arith, c.type_inv.w (c.args.p + 1))) c.second.ensures

@@ -16,7 +16,6 @@ pub fourth-requires : goal.fourth-requires
 fourth-requires c =
     record {
       site = c.requires.site;
-      t_value = c.requires.t_value;
       o_value = lt-ltb _ _ c.if-small.true;
       o_value_2 = lt-ltb _ _ c.if-large.true;
       b_value = refl;

@@ -3,8 +3,5 @@ use borrow.Author.Tests.{le-ltb}
 use Rattle.cpu.proofs.Leads.{opens_nothing}
 use Rattle.cpu.proofs.fetch.lead_first.Goals as goal
 
-pub returns-then-opens : goal.returns-then-opens
-returns-then-opens c = c.lead_opened.ensures
-
 pub returns : goal.returns
-returns c = opens_nothing _ _ c.entry_in-e.ensures (le-ltb _ _ c.if-opens.false) _ _ _ _ _
+returns c = opens_nothing _ _ c.entry-e.ensures (le-ltb _ _ c.if-opens.false) _ _ _ _ _

@@ -1,15 +1,23 @@
 -- `cpu::step::judge` meets its contract.
-use Rattle.cpu.proofs.Stepping.{at_early, at_operand, at_work}
+use mathlib.Core.Path.{sym, ◌∙◌}
+use Rattle.std.proofs.lemmas.Result.{err_from_is_err_and}
+use Rattle.cpu.specs.Turns.{came}
+use Rattle.cpu.proofs.Ways.{judge_ends, judge_on, operate_fault, operate_on}
 use Rattle.cpu.proofs.step.judge.Goals as goal
 
-pub returns-in_default : goal.returns-in_default
-returns-in_default c = at_early _ _ _ _ _ _ c.requires.user_value _ _ c.early_end-y.ensures _ c.in_default.not-On c.ended.ensures
+pub returns-in-Some : goal.returns-in-Some
+unfolding came
+returns-in-Some c = rw (c.stopped.ensures, c.with_pc.ensures) (judge_ends _ _ _ _ _ _ _ (sym c.early_end.ensures ∙ c.in-Some.is))
 
-pub operand-h-requires : goal.operand-h-requires
-operand-h-requires c = c.requires.bits_value
-
-pub returns-in_default-h : goal.returns-in_default-h
-returns-in_default-h c = at_operand _ _ _ _ _ _ c.requires.user_value _ _ c.early_end-y.ensures _ c.in-On.is c.spot_of-s.ensures _ c.operand-h.ensures _ c.in_default-h.not-Byte c.denied.ensures
+pub returns-in_err-v : goal.returns-in_err-v
+unfolding came
+returns-in_err-v c =
+    let p = err_from_is_err_and c.from_residual.result c.from_residual.ensures.1 in
+    rw (p.1, p.2)
+    (judge_on _ _ _ _ _ _ _ _ _ _ c.early_end.ensures c.in_default.is c.args.x.in_mode c.spot_of-s.ensures
+    (operate_fault _ _ _ _ _ _ _ _ (rw c.args.x.in_mode at (sym c.read_number.ensures ∙ c.in_err-v.was))))
 
 pub returns : goal.returns
-returns c = at_work _ _ _ _ _ _ c.requires.user_value _ _ c.early_end-y.ensures _ c.in-On.is c.spot_of-s.ensures _ c.operand-h.ensures _ _ c.in-Byte.is c.work.ensures
+returns c =
+    judge_on _ _ _ _ _ _ _ _ _ _ c.early_end.ensures c.in_default.is c.args.x.in_mode c.spot_of-s.ensures
+    (operate_on _ _ _ _ _ _ _ _ _ _ (rw c.args.x.in_mode at c.read_number.ensures) c.in_ok-v.was c.work.ensures)

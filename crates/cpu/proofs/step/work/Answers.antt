@@ -1,20 +1,30 @@
 -- `cpu::step::work` meets its contract.
-use borrow.Author.Tests.{le-ltb, lt-ltb, not-true, not-false}
-use Rattle.cpu.proofs.Ways.{work_rules}
-use Rattle.cpu.proofs.Stepping.{at_swap, at_write, at_done}
+use borrow.Author.Tests.{le-ltb, lt-ltb}
+use mathlib.Core.Path.{sym, ◌∙◌}
+use Rattle.std.proofs.lemmas.Result.{err_from_is_err_and}
+use Rattle.cpu.specs.Turns.{came}
+use Rattle.cpu.proofs.Ways.{work_rules, work_swap, work_fault, work_end}
 use Rattle.cpu.proofs.step.work.Goals as goal
 
 pub returns-then-rules : goal.returns-then-rules
+unfolding came
 returns-then-rules c = work_rules _ _ _ _ _ _ _ _ _ _ _ c.with_pc-past.ensures (lt-ltb _ _ c.if-rules.true) c.govern.ensures c.rule.ensures
 
-pub returns-then-swaps : goal.returns-then-swaps
-returns-then-swaps c = at_swap _ _ _ _ _ _ c.requires.user_value _ _ _ _ _ c.with_pc-past.ensures (le-ltb _ _ c.if-rules.false) c.execute-f.ensures _ _ (not-true _ c.if-swaps.true) c.swap.ensures c.completed.ensures
-
-pub write_out-k-requires : goal.write_out-k-requires
-write_out-k-requires c = c.requires.bits_value
-
 pub returns-in_default : goal.returns-in_default
-returns-in_default c = at_write _ _ _ _ _ _ c.requires.user_value _ _ _ _ _ c.with_pc-past.ensures (le-ltb _ _ c.if-rules.false) c.execute-f.ensures _ _ _ (not-false _ c.if-swaps.false) c.write_out-k.ensures _ c.in_default.not-Byte c.denied.ensures
+unfolding came
+returns-in_default c =
+    rw c.completed.ensures
+    (work_swap _ _ _ _ _ _ _ _ _ _ c.args.x.in_mode c.with_pc-past.ensures (le-ltb _ _ c.if-rules.false) _ (sym c.execute.ensures ∙ c.in_default.is) c.swap.ensures)
+
+pub returns-in_err-write_out : goal.returns-in_err-write_out
+unfolding came
+returns-in_err-write_out c =
+    let p = err_from_is_err_and c.from_residual.result c.from_residual.ensures.1 in
+    rw (p.1, p.2)
+    (work_fault _ _ _ _ _ _ _ _ _ _ c.args.x.in_mode c.with_pc-past.ensures (le-ltb _ _ c.if-rules.false) _ (sym c.execute.ensures ∙ c.in-Some.is) _ _ _ c.write_out.ensures _ c.in_err-write_out.was)
 
 pub returns : goal.returns
-returns c = at_done _ _ _ _ _ _ c.requires.user_value _ _ _ _ _ c.with_pc-past.ensures (le-ltb _ _ c.if-rules.false) c.execute-f.ensures _ _ _ (not-false _ c.if-swaps.false) c.write_out-k.ensures _ _ c.in-Byte.is c.completed-2.ensures
+unfolding came
+returns c =
+    rw c.completed-2.ensures
+    (work_end _ _ _ _ _ _ _ _ _ _ c.args.x.in_mode c.with_pc-past.ensures (le-ltb _ _ c.if-rules.false) _ (sym c.execute.ensures ∙ c.in-Some.is) _ _ _ c.write_out.ensures _ c.in_ok-write_out.was)

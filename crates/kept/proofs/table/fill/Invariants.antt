@@ -1,5 +1,5 @@
 -- `kept::table::fill` meets its contract.
-use Prim.Native.Nat.{ℕ, ◌-◌, ◌≤◌, ◌<◌}
+use Prim.Native.Nat.{ℕ, ◌<◌}
 use mathlib.Core.Path.{◌≡◌}
 use mathlib.Core.Bool.{false}
 use lib.ListN.{length, get_or}
@@ -9,7 +9,4 @@ use Rattle.kept.proofs.table.fill.Given as goal
 
 abbrev pub invariant-loop-k : goal.invariant-loop-k
 invariant-loop-k l =
-    (l.k ≤ 48) × ((length l.kept ≡ 48) × ((j : ℕ) → j < l.k → eqb (get_or l.kept j 0) 1 ≡ false → Entered l.bits l.user l.ds l.size j (get_or l.kept j 0)))
-
-abbrev pub decreases-loop-k : goal.decreases-loop-k
-decreases-loop-k l = 48 - l.k
+    (length l.kept ≡ 48) × ((j : ℕ) → j < l.k → eqb (get_or l.kept j 0) 1 ≡ false → Entered l.mode.user l.mode.control l.ds l.size j (get_or l.kept j 0))

@@ -9,7 +9,7 @@ pub loop-n-init : goal.loop-n-init
 loop-n-init c = starts _ _ _ _ _ c.requires.inside
 
 pub code_at-f-requires : goal.code_at-f-requires
-code_at-f-requires c = record { inside = c.loop-n.invariant.inside; t_value = c.requires.t_value }
+code_at-f-requires c = record { inside = c.loop-n.invariant.inside }
 
 pub returns-then-lost : goal.returns-then-lost
 returns-then-lost c =

@@ -1,4 +1,0 @@
-use Rattle.mmu.proofs.make_valid.Goals as goal
-
-pub returns : goal.returns
-returns c = cc
