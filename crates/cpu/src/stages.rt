@@ -5,6 +5,7 @@ ghost use Rattle.bus.specs.Leave.{state_of, whole};
 ghost use Rattle.cpu.specs.Program.{ruled, missing, ins_of, arg_of, early};
 
 use bus::kinds::{Event, Turn};
+use decode::op;
 use plan::kinds::{Early, Governed, Ins, Stop};
 use regs::{Control, Regs};
 
@@ -36,7 +37,7 @@ pub fn rule(r: Regs, c: Control, control: u16, g: Governed) -> Turn
 pub fn early_end(r: Regs, c: Control, i: Ins) -> Option<Early>
     ensures { result ≡ early r c i }
 {
-    let may = i.op < 24;
+    let may = i.op < op::EX_A_R;
     if may {
         plan::early::early_of(r, c, i)
     } else {
@@ -48,7 +49,7 @@ pub fn early_end(r: Regs, c: Control, i: Ins) -> Option<Early>
 pub fn missing_of(r: Regs, c: Control, e: u16) -> Stop
     ensures { result ≡ missing r c e }
 {
-    let traps = (decode::op_of(e) == 2) & (c.tcr / 2 % 2 == 0);
+    let traps = (decode::op_of(e) == op::EXTENDED) & (c.tcr / 2 % 2 == 0);
     if traps {
         return Stop::Extended(r.pc);
     }

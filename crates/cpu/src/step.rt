@@ -14,7 +14,7 @@ use board::Fault;
 use bus::kinds::Turn;
 use bus::read::read_number;
 use bus::store::{denied, write_out};
-use decode::Tables;
+use decode::{Tables, op};
 use mmu::Mode;
 use plan::kinds::{Ins, Spot};
 use regs::{Control, Regs};
@@ -24,7 +24,7 @@ fn work(x: Begun, ds: &mut [u16; 32], w: &mut [u8], i: Ins, s: Spot, v: u32) -> 
     ensures { came x.regs x.ctl x.mode.control result ds.new w.new ≡ exec (worked x.regs x.ctl i s v) (state_of x.regs x.ctl x.mode.control ds.old w.old) }
 {
     let past = x.regs.with_pc(i.next);
-    let rules = i.op < 24;
+    let rules = i.op < op::EX_A_R;
     if rules {
         return Ok(rule(
             x.regs,

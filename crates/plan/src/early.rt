@@ -3,6 +3,7 @@ ghost use Rattle.std.specs.Prelude.{◌≡◌};
 ghost use Rattle.plan.specs.Early.{left_out, barred, halting, port_of, event, early_of};
 
 use crate::kinds::{Early, Ins, Stop, low8, low16};
+use decode::op;
 use regs::{Control, Regs};
 
 // LDCTL whose C names a register that is not built.
@@ -11,14 +12,15 @@ fn left_out(r: Regs, i: Ins) -> bool
     ensures { result ≡ left_out r i }
 {
     let c = r.bc % 256;
-    ((i.op == 20) | (i.op == 21)) & !((c == 0) | (c == 4) | (c == 6) | (c == 8) | (c == 0x10))
+    ((i.op == op::LDCTL_XX_C) | (i.op == op::LDCTL_C_XX))
+        & !((c == 0) | (c == 4) | (c == 6) | (c == 8) | (c == 0x10))
 }
 
 #[tactic(auto, unfolding(crate::specs::Early::barred))]
 fn is_barred(c: Control, i: Ins) -> bool
     ensures { result ≡ barred c i }
 {
-    c.user() & ((i.op == 4) | (16 <= i.op) | (6 <= i.op) & (c.tcr / 4 % 2 == 1))
+    c.user() & ((i.op == op::HALT) | (op::DI <= i.op) | (op::IN_N <= i.op) & (c.tcr / 4 % 2 == 1))
 }
 
 #[tactic(auto, unfolding(crate::specs::Early::halting))]
@@ -43,8 +45,7 @@ fn port_of(r: Regs, c: Control, i: Ins) -> u32
     ensures { result ≡ port_of r c i }
 {
     let page = u32::from(c.iopage) * 65536;
-    let immediate = i.op < 8;
-    if immediate {
+    if i.op < op::IN_C {
         return page + (u32::from(r.a()) * 256 + u32::from(low8(i.arg)));
     }
     page + u32::from(r.bc)
@@ -55,12 +56,12 @@ fn port_of(r: Regs, c: Control, i: Ins) -> u32
 fn event_of(r: Regs, c: Control, i: Ins) -> Option<Early>
     ensures { result ≡ event r c i }
 {
-    if i.op == 4 {
+    if i.op == op::HALT {
         return Some(halt(c, i));
     }
-    let stop = if i.op == 5 {
+    let stop = if i.op == op::SC {
         Stop::Call(low16(i.arg), i.next)
-    } else if i.op < 16 {
+    } else if i.op < op::DI {
         Stop::Port(port_of(r, c, i), i.op % 2 == 1)
     } else {
         return None;

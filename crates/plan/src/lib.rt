@@ -1,6 +1,6 @@
 // What the instructions share: what passes between the stages of a step, the event that one ends with early, the place of its operand,
 // where its result goes, and the stack.
-#![tactic(auto, unfolding(crate::specs::Early::left_out, crate::specs::Early::barred, crate::specs::Early::halting, crate::specs::Early::port_of, crate::specs::Early::event, crate::specs::Early::early_of, crate::specs::Kinds::immediate_of, crate::specs::Places::returning, crate::specs::Places::spot_of, crate::specs::Results::into_r, crate::specs::Results::into_m, crate::specs::Results::into_hl, crate::specs::Stack::pushed, crate::specs::Stack::popped))]
+#![tactic(auto, unfolding(crate::specs::Kinds::immediate_of, crate::specs::Places::returning, crate::specs::Places::spot_of, crate::specs::Results::into_r, crate::specs::Results::into_m, crate::specs::Results::into_hl, crate::specs::Stack::pushed, crate::specs::Stack::popped))]
 
 pub mod early;
 pub mod kinds;
