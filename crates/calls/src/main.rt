@@ -2,24 +2,29 @@
 // standard input has them, as `cases::script` reads them. STEP, RUN, DELIVER and VALID are the calls, over BYTES bytes of memory.
 #![tactic(auto)]
 
+use bus::kinds::Event;
 use cases::cells::Cells;
 use cases::{calls, script};
 
 fn step(x: &mut Cells, w: &mut [u8]) {
-    let a = host::step(x.machine(), w);
-    let next = a.machine;
-    let e = a.event;
-    x.put_answer(a.refusal, next);
+    let mut m = x.machine();
+    let (refusal, e) = match host::step(&mut m, w) {
+        Ok(e) => (0, e),
+        Err(k) => (k.number(), Event::Completed),
+    };
+    x.put_answer(refusal, m);
     x.put_event(e);
 }
 
 fn run(x: &mut Cells, w: &mut [u8]) {
-    let a = host::run(x.machine(), w, x.steps);
-    let next = a.machine;
-    let e = a.event;
-    x.put_answer(a.refusal, next);
+    let mut m = x.machine();
+    let (refusal, e, steps) = match host::run(&mut m, w, x.steps) {
+        Ok(r) => (0, r.event, r.steps),
+        Err(k) => (k.number(), Event::Completed, 0),
+    };
+    x.put_answer(refusal, m);
     x.put_event(e);
-    x.steps = a.steps;
+    x.steps = steps;
 }
 
 fn call(name: &[u8], x: &mut Cells, w: &mut [u8]) -> bool {

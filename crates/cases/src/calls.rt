@@ -1,14 +1,15 @@
 // The calls that run no instruction, over cells.
 use crate::cells::Cells;
+use legal::refusal::refused_by;
 
 pub fn deliver(x: &mut Cells, w: &mut [u8]) {
-    let a = deliver::deliver(x.machine(), w, x.event());
-    let next = a.machine;
-    x.put_answer(a.refusal, next);
+    let mut m = x.machine();
+    let r = deliver::deliver(&mut m, w, x.event());
+    x.put_answer(refused_by(r), m);
 }
 
 pub fn make_valid(x: &mut Cells) {
-    let a = valid::make_valid(x.machine(), (x.n % 256) as u8);
-    let next = a.machine;
-    x.put_answer(a.refusal, next);
+    let mut m = x.machine();
+    let r = valid::make_valid(&mut m, (x.n % 256) as u8);
+    x.put_answer(refused_by(r), m);
 }

@@ -15,10 +15,11 @@ use Rattle.plan.specs.declared.kinds.Stop.TheVariants.{Call}
 use Rattle.board.specs.Program.{through, if_room}
 use Rattle.bus.specs.declared.kinds.Event.TheVariants.{Stopped}
 use Rattle.bus.specs.Access.{next, room_for}
-use Rattle.saves.specs.declared.places.Pair.TheVariants.{At}
-use Rattle.saves.specs.Saves.{Outcome, outcome, vector_at, saved}
-use Rattle.saves.specs.Words.{pair_of, pair_for, marked_word, stored_word, entering}
-use Rattle.saves.proofs.Stack.{stored_length, ends_3}
+use Rattle.std.specs.Prelude.{Some}
+use Rattle.saves.specs.Saves.{Outcome, delivered, vector_at, saved}
+use Rattle.saves.specs.declared.pushing.Word.{Word}
+use Rattle.saves.specs.Words.{word_of, both_places, word_for, words_for, all_marking, all_storing, last_at, marked_word, stored_word, entering}
+use Rattle.saves.proofs.Stack.{stored_length, done}
 use Rattle.deliver.specs.Deliver.{stopped, trap_of, taken, deliver_of}
 use Rattle.deliver.specs.Known.{six, Called, SystemCall}
 
@@ -46,9 +47,10 @@ room_off : (mmu : ℕ) (ds : List ℕ) (n a : ℕ) → bit 0x0800 mmu ≡ false 
 unfolding room_for translate placed through if_room
 room_off mmu ds n a off h = rw (translating_is mmu false ∙ off, lt-ltb a n h)
 
-pair_off : (mmu : ℕ) (ds : List ℕ) (n a : ℕ) → bit 0x0800 mmu ≡ false → a < n → next a < n → pair_for mmu ds n a ≡ At a (next a)
-unfolding pair_for pair_of
-pair_off mmu ds n a off h k = rw (room_off mmu ds n a off h, room_off mmu ds n (next a) off k)
+word_off : (mmu : ℕ) (ds : List ℕ) (n a v : ℕ) → bit 0x0800 mmu ≡ false → a < n → next a < n →
+    word_for mmu ds n a v ≡ Some (word_of a a (next a) v)
+unfolding word_for both_places
+word_off mmu ds n a v off h k = rw (room_off mmu ds n a off h, room_off mmu ds n (next a) off k)
 
 module _ (m : Machine) (w : List ℕ) (to : ℕ) (long : 0x2000 ≤ length w) (room : vector_at m.ctl 0x50 + 3 < length w)
     (sp : m.regs.ssp ≡ 0x2000) (off : bit 0x0800 m.mmu ≡ false) where
@@ -64,17 +66,19 @@ module _ (m : Machine) (w : List ℕ) (to : ℕ) (long : 0x2000 ≤ length w) (r
   marks : List ℕ
   marks = marked_word m.mmu 0x1FFA (marked_word m.mmu 0x1FFC (marked_word m.mmu 0x1FFE m.ds))
 
-  place : (a : ℕ) → a < 0x1FFF → pair_for m.mmu m.ds (length w) a ≡ At a (next a)
-  place a h = pair_off m.mmu m.ds (length w) a off (omega arith) (omega arith)
+  word : (a v : ℕ) → a < 0x1FFF → word_for m.mmu m.ds (length w) a v ≡ Some (word_of a a (next a) v)
+  word a v h = word_off m.mmu m.ds (length w) a v off (omega arith) (omega arith)
 
-  saves : outcome (entering m marks stored 0x1FFA (vector_at m.ctl 0x50)) stored ≡ saved m w 0x50 (to ∷ m.ctl.msr ∷ 0x1234 ∷ [])
-  unfolding once twice stored marks saved
-  saves =
-      ends_3 m w (vector_at m.ctl 0x50) to m.ctl.msr 0x1FFE 0x1FFC (rw sp) refl
-      0x1FFE 0x1FFF (sym (place 0x1FFE (omega arith)))
-      0x1FFC 0x1FFD (sym (place 0x1FFC (omega arith)))
-      0x1234 0x1FFA refl 0x1FFA 0x1FFB (sym (place 0x1FFA (omega arith)))
-      room
+  abbrev words : List Word
+  words = word_of 0x1FFE 0x1FFE 0x1FFF to ∷ word_of 0x1FFC 0x1FFC 0x1FFD m.ctl.msr ∷ word_of 0x1FFA 0x1FFA 0x1FFB 0x1234 ∷ []
+
+  placed_all : words_for m.mmu m.ds (length w) m.regs.ssp (to ∷ m.ctl.msr ∷ 0x1234 ∷ []) ≡ Some words
+  unfolding words_for
+  placed_all = rw (sp, word 0x1FFE to (omega arith), word 0x1FFC m.ctl.msr (omega arith), word 0x1FFA 0x1234 (omega arith))
+
+  saves : delivered (entering m marks stored 0x1FFA (vector_at m.ctl 0x50)) stored ≡ saved m w 0x50 (to ∷ m.ctl.msr ∷ 0x1234 ∷ [])
+  unfolding once twice stored marks all_marking all_storing last_at
+  saves = done m w 0x50 (vector_at m.ctl 0x50) (to ∷ m.ctl.msr ∷ 0x1234 ∷ []) refl room words placed_all
 
   once_long : length once ≡ length w
   unfolding once
@@ -102,7 +106,7 @@ module _ (m : Machine) (w : List ℕ) (to : ℕ) (long : 0x2000 ≤ length w) (r
         high_byte 0x1FFE 0x1FFF to w (omega arith),
       )
 
-  shown : (o : Outcome) → outcome (entering m marks stored 0x1FFA (vector_at m.ctl 0x50)) stored ≡ o → Called m to o
+  shown : (o : Outcome) → delivered (entering m marks stored 0x1FFA (vector_at m.ctl 0x50)) stored ≡ o → Called m to o
   unfolding entering
   shown o e =
       record {

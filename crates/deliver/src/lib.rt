@@ -9,34 +9,32 @@ ghost use Rattle.deliver.specs.Deliver.{taken, deliver_of};
 
 use crate::traps::{Trap, trap_of};
 use bus::kinds::Event;
-use legal::whole_frames;
+use legal::refusal::Refusal;
 use regs::Machine;
-use saves::{Delivered, refused, save_three, save_two};
+use saves::save;
 
-fn take(m: Machine, w: &mut [u8], t: Trap) -> Delivered
-    ensures { outcome result w.new ≡ taken m w.old t }
+#[tactic(auto, unfolding(crate::specs::Deliver::taken))]
+fn take(m: &mut Machine, w: &mut [u8], t: Option<Trap>) -> Result<(), Refusal>
+    ensures { outcome result m.new w.new ≡ taken m.old w.old t }
 {
+    let msr = m.ctl.msr;
     match t {
-        Trap::Two(offset, address) => save_two(m, w, offset, address),
-        Trap::Three(offset, address, operand) => save_three(m, w, offset, address, operand),
-        Trap::Undelivered => refused(8, m),
+        Some(Trap::Two(offset, address)) => save(m, w, offset, [address, msr]),
+        Some(Trap::Three(offset, address, operand)) => save(m, w, offset, [address, msr, operand]),
+        None => Err(Refusal::Undeliverable),
     }
 }
 
 // Delivers a trap. Refused, it changes neither record nor memory.
-pub fn deliver(m: Machine, w: &mut [u8], e: Event) -> Delivered
-    ensures { outcome result w.new ≡ deliver_of m w.old e }
+#[tactic(auto, unfolding(crate::specs::Deliver::deliver_of))]
+pub fn deliver(m: &mut Machine, w: &mut [u8], e: Event) -> Result<(), Refusal>
+    ensures { outcome result m.new w.new ≡ deliver_of m.old w.old e }
 {
-    let framed = whole_frames(w.len());
-    if framed {
-        let allowed = legal::allowed(m);
-        if allowed {
-            let t = trap_of(e);
-            take(m, w, t)
-        } else {
-            refused(2, m)
-        }
-    } else {
-        refused(1, m)
+    if !legal::whole_frames(w.len()) {
+        return Err(Refusal::MemoryLength);
     }
+    if !legal::allowed(*m) {
+        return Err(Refusal::ReservedBit);
+    }
+    take(m, w, trap_of(e))
 }

@@ -10,30 +10,27 @@ use plan::kinds::Stop;
 pub enum Trap {
     Two(u16, u16),
     Three(u16, u16, u16),
-    Undelivered,
 }
 
-fn stop_trap(s: Stop) -> Trap
+#[tactic(auto, unfolding(crate::specs::Deliver::stopped))]
+fn stop_trap(s: Stop) -> Option<Trap>
     ensures { result ≡ stopped s }
 {
     match s {
-        Stop::Privileged(a) => Trap::Two(0x54, a),
-        Stop::Call(operand, next) => Trap::Three(0x50, next, operand),
-        Stop::Extended(_) => Trap::Undelivered,
-        Stop::Halted => Trap::Undelivered,
-        Stop::Break(a) => Trap::Two(0x40, a),
-        Stop::Port(_, _) => Trap::Undelivered,
-        Stop::Nothing(_) => Trap::Undelivered,
+        Stop::Privileged(a) => Some(Trap::Two(0x54, a)),
+        Stop::Call(operand, next) => Some(Trap::Three(0x50, next, operand)),
+        Stop::Break(a) => Some(Trap::Two(0x40, a)),
+        Stop::Extended(_) | Stop::Halted | Stop::Port(_, _) | Stop::Nothing(_) => None,
     }
 }
 
-pub fn trap_of(e: Event) -> Trap
+#[tactic(auto, unfolding(crate::specs::Deliver::trap_of))]
+pub fn trap_of(e: Event) -> Option<Trap>
     ensures { result ≡ trap_of e }
 {
     match e {
-        Event::Completed => Trap::Undelivered,
-        Event::Violation(_, a) => Trap::Two(0x4C, a),
-        Event::Absent(_) => Trap::Undelivered,
+        Event::Violation(_, a) => Some(Trap::Two(0x4C, a)),
         Event::Stopped(s) => stop_trap(s),
+        Event::Completed | Event::Absent(_) => None,
     }
 }

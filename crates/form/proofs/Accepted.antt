@@ -9,22 +9,21 @@ use lib.Dec.{leb, eqb, lit<}
 use lib.ListN.{length, get_or}
 use Rattle.pack.specs.Pack.{unpack}
 use Rattle.legal.specs.Legal.{whole_frames, allowed_bits}
-use Rattle.form.specs.declared.Restored.{Restored}
-use Rattle.form.specs.Form.{widths, machine_of, frames_of, refused, restored, read_fields, read_form}
+use Rattle.form.specs.Form.{Reading, widths, machine_of, frames_of, refused, restored, read_fields, read_form}
 
-pub record Accepted (long : Bool) (r : Restored) : Type 0 where
+pub record Accepted (long : Bool) (r : Reading) : Type 0 where
   pub long_enough : long ≡ true
   pub some : 1 ≤ r.frames
   pub few : r.frames ≤ 16
   pub allowed : allowed_bits r.machine ≡ true
 
-refusing : (n : ℕ) (long : Bool) (r : Restored) → r ≡ refused n → 0 < n → r.refusal ≡ 0 → Accepted long r
+refusing : (n : ℕ) (long : Bool) (r : Reading) → r ≡ refused n → 0 < n → r.refusal ≡ 0 → Accepted long r
 unfolding refused
-refusing n long r e l z = absurd (omega (arith, sym (ap (λ (x : Restored). x.refusal) e) ∙ z))
+refusing n long r e l z = absurd (omega (arith, sym (ap (λ (x : Reading). x.refusal) e) ∙ z))
 
 -- each test passed
 passed : (k a b c d : Bool) (v : List ℕ) → leb (frames_of v) 16 ≡ b → allowed_bits (machine_of v) ≡ c →
-    (r : Restored) → r ≡ cond (not k) (refused 3) (cond (not a) (refused 4) (cond (not b) (refused 10) (cond (not c) (refused 2) (cond (not d) (refused 5) (restored v))))) →
+    (r : Reading) → r ≡ cond (not k) (refused 3) (cond (not a) (refused 4) (cond (not b) (refused 10) (cond (not c) (refused 2) (cond (not d) (refused 5) (restored v))))) →
     r.refusal ≡ 0 → Accepted k r
 unfolding restored
 passed true true true true true v f m r e z =

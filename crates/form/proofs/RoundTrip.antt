@@ -15,9 +15,8 @@ use Rattle.regs.specs.declared.Regs.{Regs}
 use Rattle.regs.specs.declared.Control.{Control}
 use Rattle.regs.specs.declared.Machine.{Machine}
 use Rattle.legal.specs.Legal.{allowed_bits}
-use Rattle.form.specs.declared.Restored.{Restored}
 use Rattle.legal.specs.Held.{Held}
-use Rattle.form.specs.Form.{bit_for, widths, fields_of, regs_of, control_of, machine_of, frames_of, write_refusal, written, refused, restored, read_fields, read_form}
+use Rattle.form.specs.Form.{Reading, bit_for, widths, fields_of, regs_of, control_of, machine_of, frames_of, write_refusal, written, refused, restored, read_fields, read_form}
 use Rattle.form.proofs.Facts.{table, fields_fit, allowed_is}
 use Rattle.form.proofs.Tests.{length_fine, read_0, goes, fine_0}
 
@@ -94,7 +93,7 @@ module _ (m : Machine) (f : ℕ) (h : Held m) (ok : allowed_bits m ≡ true) whe
 -- ---- read, then written
 
 -- the tests of an accepted form all passed
-accepted : (a b c d : Bool) (x : Restored)
+accepted : (a b c d : Bool) (x : Reading)
     → (cond (not a) (refused 4) (cond (not b) (refused 10) (cond (not c) (refused 2) (cond (not d) (refused 5) x)))).refusal ≡ 0
     → (a ≡ true) × (b ≡ true) × (c ≡ true) × (d ≡ true)
 unfolding refused
@@ -104,7 +103,7 @@ accepted true true false d x e = absurd (omega arith)
 accepted true false c d x e = absurd (omega arith)
 accepted false b c d x e = absurd (omega arith)
 
-long_enough : (a : Bool) (x : Restored) → (cond (not a) (refused 3) x).refusal ≡ 0 → a ≡ true
+long_enough : (a : Bool) (x : Reading) → (cond (not a) (refused 3) x).refusal ≡ 0 → a ≡ true
 unfolding refused
 long_enough true x e = refl
 long_enough false x e = absurd (omega arith)
@@ -192,7 +191,7 @@ module _ (s : List ℕ) where
     tests =
         let v : List ℕ = unpack widths s in
         let a = accepted (eqb (get_or v 0 0) 1) (leb (frames_of v) 16) (allowed_bits (machine_of v)) (eqb (get_or v 55 0) 0) (restored v)
-        (sym (ap (λ (r : Restored). r.refusal) (length_fine s n)) ∙ ok) in
+        (sym (ap (λ (r : Reading). r.refusal) (length_fine s n)) ∙ ok) in
         (eqb-true _ _ a.0, leb-true _ _ a.1, a.2, eqb-true _ _ a.3)
 
     read_is : read_form s ≡ restored (unpack widths s)

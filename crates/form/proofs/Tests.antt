@@ -11,8 +11,7 @@ use borrow.Author.Tests.{le-leb, lt-leb, lt-ltb, le-ltb, eq-eqb, ne_eqb}
 use Rattle.pack.specs.Pack.{pack, unpack, pasted}
 use Rattle.regs.specs.declared.Machine.{Machine}
 use Rattle.legal.specs.Legal.{allowed_bits}
-use Rattle.form.specs.declared.Restored.{Restored}
-use Rattle.form.specs.Form.{widths, fields_of, machine_of, frames_of, write_refusal, written, refused, restored, read_fields, read_form}
+use Rattle.form.specs.Form.{Reading, widths, fields_of, machine_of, frames_of, write_refusal, written, refused, restored, read_fields, read_form}
 
 -- ---- the writer: t is what the test of the bits answered
 
@@ -57,12 +56,12 @@ module _ (m : Machine) (f : ℕ) (out : List ℕ) where
 -- ---- the reader
 
 module _ (v : List ℕ) where
-  pub version_4 : (x : Restored) → (get_or v 0 0 ≡ 1 → ⊥) → x ≡ refused 4 → x ≡ read_fields v
+  pub version_4 : (x : Reading) → (get_or v 0 0 ≡ 1 → ⊥) → x ≡ refused 4 → x ≡ read_fields v
   unfolding read_fields
   version_4 x h e = rw (ne_eqb (get_or v 0 0) 1 h) e
 
   module _ (one : get_or v 0 0 ≡ 1) where
-    pub frames_10 : (x : Restored) → 16 ≤ get_or v 1 0 → x ≡ refused 10 → x ≡ read_fields v
+    pub frames_10 : (x : Reading) → 16 ≤ get_or v 1 0 → x ≡ refused 10 → x ≡ read_fields v
     unfolding read_fields
     frames_10 x h e = rw (eq-eqb (get_or v 0 0) 1 one, lt-leb (frames_of v) 16 (omega arith)) e
 
@@ -70,12 +69,12 @@ module _ (v : List ℕ) where
       frames_fine : leb (frames_of v) 16 ≡ true
       frames_fine = le-leb (frames_of v) 16 (omega arith)
 
-      pub bits_r2 : (x : Restored) → t ≡ false → x ≡ refused 2 → x ≡ read_fields v
+      pub bits_r2 : (x : Reading) → t ≡ false → x ≡ refused 2 → x ≡ read_fields v
       unfolding read_fields
       bits_r2 x h e = rw (eq-eqb (get_or v 0 0) 1 one, frames_fine, ← is, ← test, h) e
 
       module _ (fine : t ≡ true) where
-        pub padding_5 : (x : Restored) → (get_or v 55 0 ≡ 0 → ⊥) → x ≡ refused 5 → x ≡ read_fields v
+        pub padding_5 : (x : Reading) → (get_or v 55 0 ≡ 0 → ⊥) → x ≡ refused 5 → x ≡ read_fields v
         unfolding read_fields
         padding_5 x h e = rw (eq-eqb (get_or v 0 0) 1 one, frames_fine, ← is, ← test, fine, ne_eqb (get_or v 55 0) 0 h) e
 

@@ -1,11 +1,13 @@
 -- Document 01, "Stored form" and "Refusal numbers": the fields, the writer, the reader.
-use Rattle.std.specs.Prelude.{ℕ, ◌+◌, ◌-◌, ◌*◌, ◌/◌, ◌%◌, List, [], ◌∷◌, ◌++◌, Bool, cond, not, ◌&&◌, length, replicate, take, drop, get_or, leb, ltb, eqb}
+use Rattle.std.specs.Prelude.{ℕ, ◌+◌, ◌-◌, ◌*◌, ◌/◌, ◌%◌, List, [], ◌∷◌, ◌++◌, Bool, cond, not, ◌&&◌, length, replicate, take, drop, get_or, leb, ltb, eqb, Result, Ok, Err}
 use Rattle.pack.specs.Pack.{pack, unpack}
 use Rattle.regs.specs.declared.Regs.{Regs}
 use Rattle.regs.specs.declared.Control.{Control}
 use Rattle.regs.specs.declared.Machine.{Machine}
 use Rattle.legal.specs.Legal.{allowed_bits, reset_record}
+use Rattle.legal.specs.Refusal.{number_of}
 use Rattle.form.specs.declared.Restored.{Restored}
+use Rattle.form.specs.declared.Unread.{Unread}
 
 -- ---- the fields of version 1
 
@@ -69,19 +71,29 @@ written m f out = cond (eqb (write_refusal m f (length out)) 0) (pack widths (fi
 
 -- ---- the reader: refusals 3, 4, 10, 2, 5
 
+-- an answer: 0 or the refusal's number, the machine, and the frames of its memory
+pub record Reading : Type 0 where
+  pub refusal : ℕ
+  pub machine : Machine
+  pub frames : ℕ
+
+abbrev pub reading : Result Restored Unread → Reading
+reading (Ok r) = record { refusal = 0; machine = r.machine; frames = r.frames }
+reading (Err u) = record { refusal = number_of u.refusal; machine = u.restored.machine; frames = u.restored.frames }
+
 -- a refused reader gives the reset record and one frame
-unfoldable pub refused : ℕ → Restored
+unfoldable pub refused : ℕ → Reading
 refused n = record { refusal = n; machine = reset_record; frames = 1 }
 
-unfoldable pub restored : List ℕ → Restored
+unfoldable pub restored : List ℕ → Reading
 restored v = record { refusal = 0; machine = machine_of v; frames = frames_of v }
 
-unfoldable pub read_fields : List ℕ → Restored
+unfoldable pub read_fields : List ℕ → Reading
 read_fields v =
     cond (not (eqb (get_or v 0 0) 1)) (refused 4)
     (cond (not (leb (frames_of v) most_frames)) (refused 10)
     (cond (not (allowed_bits (machine_of v))) (refused 2)
     (cond (not (eqb (get_or v 55 0) 0)) (refused 5) (restored v))))
 
-unfoldable pub read_form : List ℕ → Restored
+unfoldable pub read_form : List ℕ → Reading
 read_form s = cond (not (eqb (length s) form_length)) (refused 3) (read_fields (unpack widths s))

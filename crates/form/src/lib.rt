@@ -2,16 +2,32 @@
 #![tactic(auto)]
 
 ghost use Rattle.std.specs.Prelude.{◌≡◌, ◌≤◌, length};
-ghost use Rattle.form.specs.Form.{bit_for, first_fields, fields_of, regs_of, control_of, machine_with, machine_of, write_refusal, written, refused, read_fields, read_form};
+ghost use Rattle.legal.specs.Refusal.{number_of, refused_by};
+ghost use Rattle.form.specs.Form.{first_fields, fields_of, regs_of, control_of, machine_with, machine_of, write_refusal, written, reading, refused, read_fields, read_form};
 
+use legal::refusal::Refusal;
 use regs::{Control, Machine, Regs};
 
-// What the reader answers: 0 or the refusal's number, the machine, and the frames of its memory.
+// What a form names: the machine, and the frames of its memory.
 #[derive(Clone, Copy)]
 pub struct Restored {
-    pub refusal: u8,
     pub machine: Machine,
     pub frames: u16,
+}
+
+// A form that is refused, and what stands for what it names: the reset record and one frame.
+#[derive(Clone, Copy)]
+pub struct Unread {
+    pub refusal: Refusal,
+    pub restored: Restored,
+}
+
+impl From<Unread> for Refusal {
+    ghost from_gives = { λ u k. k ≡ u.refusal };
+
+    fn from(u: Unread) -> Refusal {
+        u.refusal
+    }
 }
 
 // Version; frames less one; AF, BC, DE, HL, the alternates, IX, IY, PC, system SP, user SP; bank bits AF and others; MSR, TCR, I/O page,
@@ -28,12 +44,6 @@ pub const LENGTH: usize = 101;
 
 const MOST_FRAMES: u16 = 16;
 
-fn bit_for(b: bool) -> u16
-    ensures { result ≡ bit_for b }
-{
-    if b { 1 } else { 0 }
-}
-
 // The values of the fields before the descriptors.
 fn first_fields(m: Machine, frames: u16) -> [u16; 23]
     requires { 1 ≤ frames }
@@ -46,8 +56,8 @@ fn first_fields(m: Machine, frames: u16) -> [u16; 23]
     let iopage = c.iopage as u16;
     let limit = c.limit / 16;
     let vector = c.vector / 16;
-    let bankaf = bit_for(r.bankaf);
-    let bankx = bit_for(r.bankx);
+    let bankaf = u16::from(r.bankaf);
+    let bankx = u16::from(r.bankx);
     [
         VERSION, less, r.af, r.bc, r.de, r.hl, r.af2, r.bc2, r.de2, r.hl2, r.ix, r.iy, r.pc, r.ssp,
         r.usp, bankaf, bankx, c.msr, tcr, iopage, limit, vector, m.mmu,
@@ -124,68 +134,67 @@ fn machine_of(v: [u16; 56]) -> Machine
     machine_with(v, ds)
 }
 
-// The form of m, with so many frames of memory, into the first bytes of out. Answers 0 or the refusal's number.
-pub fn write_form(m: Machine, frames: u16, out: &mut [u8]) -> u8
-    ensures { (result ≡ write_refusal m frames (length out.old)) × (out.new ≡ written m frames out.old) }
+// The form of m, with so many frames of memory, into the first bytes of out. Refused, it changes no byte.
+pub fn write_form(m: Machine, frames: u16, out: &mut [u8]) -> Result<(), Refusal>
+    ensures { (refused_by result ≡ write_refusal m frames (length out.old)) × (out.new ≡ written m frames out.old) }
 {
     if frames < 1 {
-        return 1;
+        return Err(Refusal::MemoryLength);
     }
     if MOST_FRAMES < frames {
-        return 1;
+        return Err(Refusal::MemoryLength);
     }
     if !legal::allowed(m) {
-        return 2;
+        return Err(Refusal::ReservedBit);
     }
     if out.len() < LENGTH {
-        return 3;
+        return Err(Refusal::BufferLength);
     }
     let vs = fields(m, frames);
     pack::put_all(out, &WIDTHS, &vs);
-    0
+    Ok(())
 }
 
-fn refuse(n: u8) -> Restored
-    ensures { result ≡ refused n }
+#[tactic(auto, unfolding(crate::specs::Form::refused))]
+fn refuse(refusal: Refusal) -> Unread
+    ensures { reading (Err result) ≡ refused (number_of refusal) }
 {
-    let m = legal::reset();
-    Restored {
-        refusal: n,
-        machine: m,
-        frames: 1,
+    let machine = legal::reset();
+    Unread {
+        refusal,
+        restored: Restored { machine, frames: 1 },
     }
 }
 
 // What a form with the field values v answers.
-fn read_fields(v: [u16; 56]) -> Restored
-    ensures { result ≡ read_fields v }
+fn read_fields(v: [u16; 56]) -> Result<Restored, Unread>
+    ensures { reading result ≡ read_fields v }
 {
     if v[0] != VERSION {
-        return refuse(4);
+        return Err(refuse(Refusal::Version));
     }
     if MOST_FRAMES <= v[1] {
-        return refuse(10);
+        return Err(refuse(Refusal::FrameCount));
     }
-    let m = machine_of(v);
-    if !legal::allowed(m) {
-        return refuse(2);
+    let machine = machine_of(v);
+    if !legal::allowed(machine) {
+        return Err(refuse(Refusal::ReservedBit));
     }
     if v[55] != 0 {
-        return refuse(5);
+        return Err(refuse(Refusal::Padding));
     }
-    Restored {
-        refusal: 0,
-        machine: m,
+    Ok(Restored {
+        machine,
         frames: v[1] + 1,
-    }
+    })
 }
 
-// The machine and the frames that a form names; a refused one gives the reset record and one frame.
-pub fn read_form(s: &[u8]) -> Restored
-    ensures { result ≡ read_form s.now }
+// The machine and the frames that a form names.
+pub fn read_form(s: &[u8]) -> Result<Restored, Unread>
+    ensures { reading result ≡ read_form s.now }
 {
     if s.len() != LENGTH {
-        return refuse(3);
+        return Err(refuse(Refusal::BufferLength));
     }
     let mut v = [0u16; 56];
     pack::get_all(s, &WIDTHS, &mut v);

@@ -1,18 +1,16 @@
 -- A law for each way out of the public step and run, over plain values.
 use Prim.Native.Nat.{ℕ}
 use mathlib.Core.Path.{◌≡◌, refl, ap}
-use Rattle.std.proofs.Common.{◌≢◌}
-use mathlib.Core.Bool.{true, false, not}
 use mathlib.Core.List.{List}
-use borrow.Author.Tests.{eq-eqb, ne_eqb}
-use lib.Dec.{eqb}
 use lib.ListN.{length}
+use Rattle.std.specs.Prelude.{Result, Ok, Err}
 use Rattle.board.specs.Program as b
 use Rattle.board.specs.Run as n
 use Rattle.regs.specs.declared.Machine.{Machine}
-use Rattle.bus.specs.declared.kinds.Event.TheVariants.{Completed}
 use Rattle.bus.specs.Board.{real}
-use Rattle.bus.specs.Leave.{event_of}
+use Rattle.legal.specs.declared.refusal.Refusal.{Refusal}
+use Rattle.legal.specs.Refusal.{number_of}
+use Rattle.legal.proofs.Numbers.{not_0}
 use Rattle.steps.specs.declared.Ran as code
 use Rattle.cpu.specs.Program.{program}
 use Rattle.cpu.specs.Machine.{machine_state}
@@ -37,26 +35,23 @@ module _ {B : b.Board} (prog : n.Program B) where
   run_one s = went (n.step prog s).state (n.step prog s).event
 
 module _ (m : Machine) (w : List ℕ) where
-  pub refused_run : (budget k : ℕ) → k ≡ refusal_of m (length w) → k ≢ 0 →
-      ran (record { refusal = k; machine = m; event = Completed; steps = 0 }) w ≡ run_of m w budget
-  unfolding run_of event_of n.ended
-  refused_run budget k e h = rw (← e, ne_eqb k 0 h)
-
-  pub ran_on : (budget k : ℕ) (a : code.Ran) (new : List ℕ) → k ≡ refusal_of m (length w) → k ≡ 0 →
-      ran_of a new ≡ n.run program budget (machine_state m w) →
-      ran (record { refusal = 0; machine = a.machine; event = a.event; steps = a.steps }) new ≡ run_of m w budget
+  pub refused_run : (budget : ℕ) (k : Refusal) → number_of k ≡ refusal_of m (length w) → ran (Err k) m w ≡ run_of m w budget
   unfolding run_of
-  ran_on budget k a new e h p =
-      rw (← e, eq-eqb k 0 h, ← p, h)
+  refused_run budget k e = rw (← e, not_0 k)
 
-  pub refused_step : (k : ℕ) → k ≡ refusal_of m (length w) → k ≢ 0 →
-      stepped (record { refusal = k; machine = m; event = Completed }) w ≡ step_of m w
-  unfolding step_of event_of
-  refused_step k e h = rw (← e, ne_eqb k 0 h)
+  pub ran_on : (budget : ℕ) (a : code.Ran) (new : List ℕ) → 0 ≡ refusal_of m (length w) →
+      ran_of a new ≡ n.run program budget (machine_state m w) →
+      ran (Ok (record { event = a.event; steps = a.steps })) a.machine new ≡ run_of m w budget
+  unfolding run_of
+  ran_on budget a new e p = rw (← e, ← p)
 
-  pub step_on : (k : ℕ) (a : code.Ran) (new : List ℕ) → k ≡ refusal_of m (length w) → k ≡ 0 →
-      ran_of a new ≡ n.run program 1 (machine_state m w) →
-      stepped (record { refusal = 0; machine = a.machine; event = a.event }) new ≡ step_of m w
+  pub refused_step : (k : Refusal) → number_of k ≡ refusal_of m (length w) → stepped (Err k) m w ≡ step_of m w
   unfolding step_of
-  step_on k a new e h p =
-      rw (← e, eq-eqb k 0 h, ← run_one program (machine_state m w), h) (ap (λ (x : n.Ran real). record { refusal = 0; answer = uncounted program x }) p)
+  refused_step k e = rw (← e, not_0 k)
+
+  pub step_on : (a : code.Ran) (new : List ℕ) → 0 ≡ refusal_of m (length w) →
+      ran_of a new ≡ n.run program 1 (machine_state m w) →
+      stepped (Ok a.event) a.machine new ≡ step_of m w
+  unfolding step_of
+  step_on a new e p =
+      rw (← e, ← run_one program (machine_state m w)) (ap (λ (x : n.Ran real). record { refusal = 0; answer = uncounted program x }) p)

@@ -1,5 +1,7 @@
-// Which machine records and memories are allowed, and the record at reset.
+// Which machine records and memories are allowed, the record at reset, and the refusals of the public calls.
 #![tactic(auto)]
+
+pub mod refusal;
 
 ghost use Rattle.std.specs.Prelude.{◌≡◌};
 ghost use Rattle.legal.specs.Legal.{whole_frames, allowed_control, allowed_bits, reset_record};

@@ -5,13 +5,11 @@ use Rattle.board.specs.Program as b
 use Rattle.pack.specs.Pack.{pack}
 use Rattle.bus.specs.Board.{real}
 use Rattle.legal.specs.Legal.{reset_record}
-use Rattle.form.specs.declared.Restored.{Restored}
-use Rattle.form.specs.Form.{form_length, most_frames, widths, fields_of, written, read_form}
+use Rattle.form.specs.Form.{Reading, form_length, most_frames, widths, fields_of, written, read_form}
 use Rattle.events.specs.Events.{event_numbers}
 use Rattle.events.specs.Bytes.{answer_length}
 use Rattle.handed.specs.Handed.{event_in}
-use Rattle.valid.specs.declared.Made.{Made}
-use Rattle.valid.specs.Valid.{make_valid}
+use Rattle.valid.specs.Valid.{Made, make_valid}
 use Rattle.saves.specs.Saves.{Outcome}
 use Rattle.deliver.specs.Deliver.{deliver_of}
 
@@ -32,7 +30,7 @@ reset_form s frames =
 -- ── what step, run and delivery refuse the buffers by: the reader's refusals; 1 unless there are exactly the form's frames; 3 unless 12
 -- bytes are lent. a is what the form reads as. ──
 
-unfoldable pub lent_refusal : (a : Restored) (memory bytes : ℕ) → ℕ
+unfoldable pub lent_refusal : (a : Reading) (memory bytes : ℕ) → ℕ
 lent_refusal a memory bytes =
     cond (not (eqb a.refusal 0)) a.refusal
     (cond (not (eqb memory (a.frames * 4096))) 1 (cond (not (eqb bytes answer_length)) 3 0))
@@ -55,7 +53,7 @@ unfoldable pub delivered_back : (frames : ℕ) (s : List ℕ) → Outcome → Mo
 delivered_back frames s o =
     moved o.answer.refusal (cond (eqb o.answer.refusal 0) (written o.answer.machine frames s) s) o.memory
 
-unfoldable pub deliver_read : (a : Restored) (s w e : List ℕ) → Moved
+unfoldable pub deliver_read : (a : Reading) (s w e : List ℕ) → Moved
 deliver_read a s w e =
     cond (eqb (lent_refusal a (length w) (length e)) 0)
     (delivered_back a.frames s (deliver_of a.machine w (event_in e)))
@@ -70,7 +68,7 @@ unfoldable pub made_back : (frames : ℕ) (s : List ℕ) → Made → Formed
 made_back frames s r =
     formed r.refusal (cond (eqb r.refusal 0) (written r.machine frames s) s)
 
-unfoldable pub make_read : (a : Restored) (s : List ℕ) (i : ℕ) → Formed
+unfoldable pub make_read : (a : Reading) (s : List ℕ) (i : ℕ) → Formed
 make_read a s i = cond (eqb a.refusal 0) (made_back a.frames s (make_valid a.machine i)) (formed a.refusal s)
 
 unfoldable pub make_form : (s : List ℕ) (i : ℕ) → Formed

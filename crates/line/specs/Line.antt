@@ -1,8 +1,18 @@
 -- The line that is printed: words and numbers as bytes of ASCII.
-use Rattle.std.specs.Prelude.{ℕ, ◌+◌, ◌/◌, ◌%◌, ◌≡◌, cond, List, [], ◌∷◌, ◌++◌, ltb, length, drop, replicate}
-use Rattle.line.specs.declared.Line.{Line}
-use Rattle.line.specs.declared.Shown.{Shown}
-use Rattle.line.specs.declared.Shown.TheVariants.{Refused, Ended}
+use Rattle.std.specs.Prelude.{ℕ, ◌+◌, ◌/◌, ◌%◌, ◌≡◌, cond, List, [], ◌∷◌, ◌++◌, ltb, length, drop, replicate, Result, Ok, Err}
+use Rattle.legal.specs.declared.refusal.Refusal.{Refusal}
+use Rattle.legal.specs.Refusal.{number_of}
+use Rattle.line.specs.declared.buffer.Line.{Line}
+use Rattle.line.specs.declared.End.{End}
+
+-- what is shown: a refusal's number, or an event's number, the steps that completed, PC
+pub data Shown : Type 0 where
+  Refused : ℕ → Shown
+  Ended : (event steps pc : ℕ) → Shown
+
+abbrev pub shows : Result End Refusal → Shown
+shows (Ok e) = Ended e.event e.steps e.pc
+shows (Err k) = Refused (number_of k)
 
 -- 0 to 9, then A to F
 abbrev pub glyph : ℕ → ℕ

@@ -1,35 +1,33 @@
 // What the printing program shows, and its line.
 #![tactic(auto)]
 
+pub mod buffer;
+
 ghost use Rattle.std.specs.Prelude.{◌≡◌, ◌+◌, ◌%◌, ◌≤◌, length};
-ghost use Rattle.io.specs.Counts.{IsPrefixLen};
 ghost use Rattle.pack.specs.Pack.{pasted};
-ghost use Rattle.line.specs.Line.{glyph as Line·glyph, four_hex, five_digits, zeros_before, decimal, Spells, refused_line, ended_line, line_of};
+ghost use Rattle.line.specs.Line.{glyph as digit_glyph, four_hex, five_digits, zeros_before, decimal, Spells, refused_line, ended_line, shows, line_of};
 
-use pack::put_bytes;
+use crate::buffer::Line;
+use legal::refusal::Refusal;
 
+// How a run ended.
 #[derive(Clone, Copy)]
-pub enum Shown {
-    // The refusal's number.
-    Refused(u8),
-    // The event's number, the steps that completed, PC.
-    Ended(u16, u16, u16),
-}
-
-// The first n bytes of text; the longest line has 31.
-#[derive(Clone, Copy)]
-pub struct Line {
-    pub text: [u8; 32],
-    pub n: usize,
+pub struct End {
+    // The event's number.
+    pub event: u16,
+    // The steps that completed.
+    pub steps: u16,
+    pub pc: u16,
 }
 
 fn glyph(d: u16) -> u8
-    ensures { result ≡ Line·glyph (d % 16) }
+    ensures { result ≡ digit_glyph (d % 16) }
 {
     let k = (d % 16) as u8;
     if k < 10 { 48 + k } else { 55 + k }
 }
 
+// std writes a number only to what allocates.
 fn four_hex(v: u16) -> [u8; 4]
     ensures { result ≡ four_hex v }
 {
@@ -57,66 +55,60 @@ fn five_digits(v: u16) -> [u8; 5]
     [a, b, c, d, e]
 }
 
+#[tactic(auto, unfolding(crate::specs::Line::zeros_before))]
 fn zeros_before(v: u16) -> usize
     ensures value { result ≡ zeros_before v }
     ensures upper_bound { result ≤ 4 }
 {
-    if v < 10 {
-        return 4;
+    match v {
+        0..=9 => 4,
+        10..=99 => 3,
+        100..=999 => 2,
+        1000..=9999 => 1,
+        _ => 0,
     }
-    if v < 100 {
-        return 3;
-    }
-    if v < 1000 {
-        return 2;
-    }
-    if v < 10000 {
-        return 1;
-    }
-    0
 }
 
-fn put_decimal(out: &mut [u8], at: usize, v: u16) -> usize
-    requires { at + 5 ≤ length out.old }
-    ensures value { (result ≡ at + length (decimal v)) × (out.new ≡ pasted out.old at (decimal v)) }
-    ensures upper_bound { result ≤ at + 5 }
+fn put_decimal(l: &mut Line, v: u16)
+    requires { l.old.n + 5 ≤ 32 }
+    ensures n { l.new.n ≡ l.old.n + length (decimal v) }
+    ensures text { l.new.text ≡ pasted l.old.text l.old.n (decimal v) }
+    ensures upper_bound { l.new.n ≤ l.old.n + 5 }
 {
     let d = five_digits(v);
     let z = zeros_before(v);
-    put_bytes(out, at, &d[z..])
+    l.put(&d[z..]);
 }
 
 fn refused_line(k: u8) -> Line
     ensures { Spells result (refused_line k) }
 {
-    let mut out = [0u8; 32];
-    let a = put_bytes(&mut out, 0, b"refused ");
-    let b = put_decimal(&mut out, a, k as u16);
-    let n = put_bytes(&mut out, b, b"\n");
-    Line { text: out, n }
+    let mut l = Line::new();
+    l.put(b"refused ");
+    put_decimal(&mut l, u16::from(k));
+    l.put(b"\n");
+    l
 }
 
-fn ended_line(e: u16, n: u16, pc: u16) -> Line
-    ensures { Spells result (ended_line e n pc) }
+fn ended_line(e: End) -> Line
+    ensures { Spells result (ended_line e.event e.steps e.pc) }
 {
-    let h = four_hex(pc);
-    let mut out = [0u8; 32];
-    let a = put_bytes(&mut out, 0, b"stop ");
-    let b = put_decimal(&mut out, a, e);
-    let c = put_bytes(&mut out, b, b" steps ");
-    let d = put_decimal(&mut out, c, n);
-    let f = put_bytes(&mut out, d, b" pc ");
-    let g = put_bytes(&mut out, f, &h);
-    let z = put_bytes(&mut out, g, b"\n");
-    Line { text: out, n: z }
+    let mut l = Line::new();
+    l.put(b"stop ");
+    put_decimal(&mut l, e.event);
+    l.put(b" steps ");
+    put_decimal(&mut l, e.steps);
+    l.put(b" pc ");
+    l.put(&four_hex(e.pc));
+    l.put(b"\n");
+    l
 }
 
-pub fn line_for(s: Shown) -> Line
-    ensures spells { Spells result (line_of s) }
-    ensures prefix_len { IsPrefixLen result.n result.text }
+pub fn line_for(r: Result<End, Refusal>) -> Line
+    ensures { Spells result (line_of (shows r)) }
 {
-    match s {
-        Shown::Refused(k) => refused_line(k),
-        Shown::Ended(e, n, pc) => ended_line(e, n, pc),
+    match r {
+        Ok(e) => ended_line(e),
+        Err(k) => refused_line(k.number()),
     }
 }

@@ -4,15 +4,19 @@
 
 use cases::cells::Cells;
 use cases::{calls, script};
+use legal::refusal::refused_by;
 
 fn write(x: &mut Cells, w: &mut [u8]) {
-    let k = form::write_form(x.machine(), x.frames, w);
-    x.refusal = u16::from(k);
+    let r = form::write_form(x.machine(), x.frames, w);
+    x.refusal = u16::from(refused_by(r));
 }
 
 fn read(x: &mut Cells, w: &[u8]) {
-    let a = form::read_form(w);
-    x.refusal = u16::from(a.refusal);
+    let (refusal, a) = match form::read_form(w) {
+        Ok(a) => (0, a),
+        Err(u) => (u.refusal.number(), u.restored),
+    };
+    x.refusal = u16::from(refusal);
     x.frames = a.frames;
 }
 

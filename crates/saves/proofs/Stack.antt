@@ -1,14 +1,15 @@
 -- Words pushed one after another: what is left of a delivery after each, and its ends.
-use Rattle.std.specs.Prelude.{Result, Ok, Err}
 use Prim.Native.Nat.{ℕ, ◌+◌, ◌/◌, ◌%◌, ◌<◌, ◌≤◌}
 use mathlib.Core.Path.{◌≡◌, refl, sym, ◌∙◌, ap}
-use mathlib.Core.Bool.{false}
 use mathlib.Core.List.{List, [], ◌∷◌, ◌++◌}
-use mathlib.Core.Option.{Option, none, some}
+use mathlib.Core.Bool.{false}
 use native.Mathlib.Omega.{arith}
-use borrow.Author.Tests.{ltb-false, lt-ltb, le-ltb}
-use lib.Dec.{ltb}
+use borrow.Author.Tests.{lt-ltb, le-ltb}
 use lib.ListN.{length, get_or, set, length-set}
+use Rattle.std.specs.Prelude.{Option, Some, None, Result, Ok, Err}
+use Rattle.std.proofs.lemmas.List.Elements.{All-cons, All-nil}
+use Rattle.std.proofs.Math.Option as math
+use Rattle.std.proofs.Math.Option.{none, some}
 use Rattle.regs.specs.declared.Regs.{Regs}
 use Rattle.regs.specs.declared.Machine.{Machine}
 use Rattle.regs.specs.Change.{with_ssp}
@@ -20,38 +21,74 @@ use Rattle.bus.specs.Board.{real, load_at}
 use Rattle.bus.specs.Access.{next, room_for}
 use Rattle.bus.specs.Leave.{two_writes}
 use Rattle.bus.proofs.Ends.{within}
-use Rattle.saves.specs.declared.Delivered.{Delivered}
-use Rattle.saves.specs.declared.places.Pair.{Pair}
-use Rattle.saves.specs.declared.places.Pair.TheVariants.{At, Nowhere}
-use Rattle.saves.specs.declared.places.Places.{Places}
-use Rattle.saves.specs.declared.places.Places.TheVariants.{Found, Lost}
 use Rattle.saves.specs.declared.pushing.Word.{Word}
-use Rattle.saves.specs.Saves.{Outcome, outcome, refusing, refusal, pushes, lowered, system, pushed, vector_at, both, word_at, entered, all_passed, vectored, saved}
-use Rattle.saves.specs.Words.{pair_of, pair_for, places_of, places_for, marked_word, stored_word, word_of, word_in, marking, storing, entering, saved_at}
+use Rattle.saves.specs.Saves.{Outcome, delivered, refusal, pushes, lowered, system, pushed, vector_at, both, word_at, entered, all_passed, vectored, saved}
+use Rattle.saves.specs.Words.{word_of, both_places, word_for, onto, words_for, marked_word, stored_word, word_in, marking, storing, all_marking, all_storing, last_at, InMemory, entering, saved_at}
 
--- ── a word's two places ──
+-- ── words with their places ──
 
-pair_in : (g h : Result ℕ Fault) (p q : ℕ) → At p q ≡ pair_of g h → (g ≡ Ok p) × (h ≡ Ok q)
-unfolding pair_of
-pair_in (Ok x) (Ok y) p q e = (cc, cc)
-pair_in (Ok x) (Err d) p q e = let z : ◌≡◌ {A = ℕ} 0 1 = cc in absurd (omega arith)
-pair_in (Err d) h p q e = let z : ◌≡◌ {A = ℕ} 0 1 = cc in absurd (omega arith)
+record Placed (at v : ℕ) (g h : Result ℕ Fault) (x : Word) : Type 0 where
+  low : g ≡ Ok x.low
+  high : h ≡ Ok x.high
+  address : x.at ≡ at
+  value : x.value ≡ v
 
--- what the other side of `let Places::Found(..) = t else` knows
-pub else_lost : (t : Places) → ((p q p2 q2 p3 q3 : ℕ) → t ≡ Found p q p2 q2 p3 q3 → ⊥) → t ≡ Lost
-else_lost (Found p q p2 q2 p3 q3) h = absurd (h p q p2 q2 p3 q3 refl)
-else_lost Lost h = refl
+placed_word : (at v : ℕ) (g h : Result ℕ Fault) (p q : ℕ) (x : Word) → x ≡ word_of at p q v → g ≡ Ok p → h ≡ Ok q → Placed at v g h x
+placed_word at v g h p q x e k l = rw (e, k, l) (record { low = refl; high = refl; address = refl; value = refl })
 
-module _ (mmu : ℕ) (ds : List ℕ) (n a p q : ℕ) (g : Pair) (e : g ≡ pair_for mmu ds n a) (h : g ≡ At p q) where
-  found : (room_for false mmu ds n false a ≡ Ok p) × (room_for false mmu ds n false (next a) ≡ Ok q)
-  unfolding pair_for
-  found = pair_in (room_for false mmu ds n false a) (room_for false mmu ds n false (next a)) p q (sym h ∙ e)
+placed : (at v : ℕ) (g h : Result ℕ Fault) (x : Word) → both_places at v g h ≡ Some x → Placed at v g h x
+unfolding both_places
+placed at v (Ok p) (Ok q) x e = placed_word at v (Ok p) (Ok q) p q x (cc) refl refl
+placed at v (Ok p) (Err (Denied i)) x e = absurd (cc)
+placed at v (Ok p) (Err (Lacks i)) x e = absurd (cc)
+placed at v (Err (Denied i)) h x e = absurd (cc)
+placed at v (Err (Lacks i)) h x e = absurd (cc)
 
-  fits : (p < n) × (q < n)
-  fits = (
-    within false mmu ds n false a p (room_for false mmu ds n false a) refl found.0,
-    within false mmu ds n false (next a) q (room_for false mmu ds n false (next a)) refl found.1,
-  )
+record Onto (o : Option Word) (r : Option (List Word)) (ws : List Word) : Type 0 where
+  x : Word
+  xs : List Word
+  one : o ≡ Some x
+  rest : r ≡ Some xs
+  all : ws ≡ x ∷ xs
+
+onto_some : (o : Option Word) (r : Option (List Word)) (ws : List Word) → onto o r ≡ Some ws → Onto o r ws
+onto_some None r ws e = absurd (cc)
+onto_some (Some x) None ws e = absurd (cc)
+onto_some (Some x) (Some xs) ws e = record { x = x; xs = xs; one = refl; rest = refl; all = cc }
+
+module _ (mmu : ℕ) (ds : List ℕ) (n : ℕ) where
+  abbrev Fits : Word → Type 0
+  Fits x = (x.low < n) × (x.high < n)
+
+  fits : (a v : ℕ) (x : Word) → word_for mmu ds n a v ≡ Some x → Fits x
+  unfolding word_for
+  fits a v x e =
+      let p = placed a v (room_for false mmu ds n false a) (room_for false mmu ds n false (next a)) x e in (
+        within false mmu ds n false a x.low (room_for false mmu ds n false a) refl p.low,
+        within false mmu ds n false (next a) x.high (room_for false mmu ds n false (next a)) refl p.high,
+      )
+
+  -- each place lies in memory
+  pub all_fit : (vs : List ℕ) (sp : ℕ) (ws : List Word) → words_for mmu ds n sp vs ≡ Some ws → InMemory n ws
+  unfolding words_for
+  all_fit [] sp ws e = let z : ws ≡ [] = cc in rw z (All-nil Fits)
+  all_fit (v ∷ vs) sp ws e =
+      let o = onto_some (word_for mmu ds n (plus sp 65534) v) (words_for mmu ds n (plus sp 65534) vs) ws e in
+      rw o.all (All-cons Fits o.x o.xs (fits (plus sp 65534) v o.x o.one) (all_fit vs (plus sp 65534) o.xs o.rest))
+
+  address : (a v : ℕ) (x : Word) → word_for mmu ds n a v ≡ Some x → x.at ≡ a
+  unfolding word_for
+  address a v x e = (placed a v (room_for false mmu ds n false a) (room_for false mmu ds n false (next a)) x e).address
+
+  -- SP after them
+  last_lowered : (vs : List ℕ) (sp : ℕ) (ws : List Word) → words_for mmu ds n sp vs ≡ Some ws → last_at sp ws ≡ lowered sp vs
+  unfolding words_for last_at lowered
+  last_lowered [] sp ws e = let z : ws ≡ [] = cc in rw z
+  last_lowered (v ∷ vs) sp ws e =
+      let a = plus sp 65534 in
+      let o = onto_some (word_for mmu ds n a v) (words_for mmu ds n a vs) ws e in
+      let h : last_at a o.xs ≡ lowered a vs = last_lowered vs a o.xs o.rest in
+      rw o.all (ap (λ (b : ℕ). last_at b o.xs) (address a v o.x o.one) ∙ h)
 
 -- ── a word of the vector ──
 
@@ -67,7 +104,7 @@ word_in_lem : (w : List ℕ) (p : ℕ) → p + 1 < length w → word_at w p ≡ 
 unfolding word_at both
 word_in_lem w p h = rw (load_in w p (omega arith), load_in w (p + 1) h)
 
-both_out : (x : Option ℕ) → both x none ≡ none
+both_out : (x : math.Option ℕ) → both x none ≡ none
 unfolding both
 both_out (some x) = refl
 both_out none = refl
@@ -80,6 +117,11 @@ pub stored_length : (p q v : ℕ) (w : List ℕ) → length (stored_word p q v w
 unfolding stored_word
 stored_length p q v w = length-set (set w p (v % 256)) q (v / 256) ∙ length-set w p (v % 256)
 
+stored_all : (ws : List Word) (w : List ℕ) → length (all_storing ws w) ≡ length w
+unfolding all_storing
+stored_all [] w = refl
+stored_all (x ∷ ws) w = stored_all ws (storing x w) ∙ stored_length x.low x.high x.value w
+
 -- ── one push after another ──
 
 module _ (m : Machine) (w : List ℕ) where
@@ -89,18 +131,18 @@ module _ (m : Machine) (w : List ℕ) where
   room : ℕ → Result ℕ Fault
   room a = room_for false m.mmu m.ds (length w) false a
 
-  after_both : (g h : Result ℕ Fault) (p q : ℕ) (f : ℕ → ℕ → b.Answer real) → At p q ≡ pair_of g h → b.after state g (λ x. b.after state h (λ y. f x y)) ≡ f p q
+  after_both : (p q : ℕ) (f : ℕ → ℕ → b.Answer real) → b.after state (Ok p) (λ x. b.after state (Ok q) (λ y. f x y)) ≡ f p q
   unfolding b.after
-  after_both g h p q f e = rw ((pair_in g h p q e).0, (pair_in g h p q e).1)
+  after_both p q f = refl
 
-  after_lost : (i : ℕ) (g h : Result ℕ Fault) (f : ℕ → ℕ → b.Answer real) → Nowhere ≡ pair_of g h →
+  after_lost : (i a v : ℕ) (g h : Result ℕ Fault) (f : ℕ → ℕ → b.Answer real) → both_places a v g h ≡ None →
       vectored m w i (b.after state g (λ x. b.after state h (λ y. f x y))) ≡ refusal 9 m w
-  unfolding b.after pair_of vectored all_passed
-  after_lost i (Ok x) (Ok y) f e = let z : ◌≡◌ {A = ℕ} 0 1 = cc in absurd (omega arith)
-  after_lost i (Ok x) (Err (Denied j)) f e = refl
-  after_lost i (Ok x) (Err (Lacks j)) f e = refl
-  after_lost i (Err (Denied j)) h f e = refl
-  after_lost i (Err (Lacks j)) h f e = refl
+  unfolding b.after both_places vectored all_passed
+  after_lost i a v (Ok x) (Ok y) f e = absurd (cc)
+  after_lost i a v (Ok x) (Err (Denied j)) f e = refl
+  after_lost i a v (Ok x) (Err (Lacks j)) f e = refl
+  after_lost i a v (Err (Denied j)) h f e = refl
+  after_lost i a v (Err (Lacks j)) h f e = refl
 
   rest : Regs → (a v : ℕ) → List b.Write → (es l : List ℕ) (p q : ℕ) → b.Answer real
   rest r a v xs es l p q = b.writes state r xs (marked_word m.mmu a es) (stored_word p q v l)
@@ -120,7 +162,7 @@ module _ (m : Machine) (w : List ℕ) where
     out_both (Err (Denied j)) h f e = refl
     out_both (Err (Lacks j)) h f e = refl
 
-    entered_out : (s : b.State real) (x : Option ℕ) → entered m w s x none ≡ refusal 9 m w
+    entered_out : (s : b.State real) (x : math.Option ℕ) → entered m w s x none ≡ refusal 9 m w
     unfolding entered
     entered_out s (some x) = refl
     entered_out s none = refl
@@ -135,32 +177,57 @@ module _ (m : Machine) (w : List ℕ) where
       unfolding left pushed state
       whole = refl
 
-      on : (sp v : ℕ) (xs es l : List ℕ) (a p q : ℕ) → a ≡ plus sp 65534 → At p q ≡ pair_for m.mmu m.ds (length w) a →
-          left a xs (marked_word m.mmu a es) (stored_word p q v l) ≡ left sp (v ∷ xs) es l
-      unfolding left pushes pair_for rest room
-      on sp v xs es l a p q z e =
+      on : (sp v : ℕ) (xs es l : List ℕ) (x : Word) → word_for m.mmu m.ds (length w) (plus sp 65534) v ≡ Some x →
+          left (plus sp 65534) xs (marking m.mmu x es) (storing x l) ≡ left sp (v ∷ xs) es l
+      unfolding left pushes word_for rest room
+      on sp v xs es l x e =
+          let a = plus sp 65534 in
           let r = with_ssp (lowered m.regs.ssp vs) m.regs in
-          rw (← z)
+          let o = placed a v (room a) (room (next a)) x e in
+          rw (o.address, o.value)
           (ap (λ (t : b.Answer real). vectored m w i t)
           (sym
           (word_is r a v (pushes a xs) es l ∙
-          after_both (room a) (room (next a)) p q (λ x y. rest r a v (pushes a xs) es l x y) e)))
+          rw (o.low, o.high) (after_both x.low x.high (λ p q. rest r a v (pushes a xs) es l p q)))))
 
-      lost : (sp v : ℕ) (xs es l : List ℕ) (a : ℕ) → a ≡ plus sp 65534 → Nowhere ≡ pair_for m.mmu m.ds (length w) a →
-          refusal 9 m w ≡ left sp (v ∷ xs) es l
-      unfolding left pushes pair_for rest room
-      lost sp v xs es l a z e =
+      lost : (sp v : ℕ) (xs es l : List ℕ) → word_for m.mmu m.ds (length w) (plus sp 65534) v ≡ None →
+          left sp (v ∷ xs) es l ≡ refusal 9 m w
+      unfolding left pushes word_for rest room
+      lost sp v xs es l e =
+          let a = plus sp 65534 in
           let r = with_ssp (lowered m.regs.ssp vs) m.regs in
-          rw (← z)
-          (sym
-          (ap (λ (t : b.Answer real). vectored m w i t) (word_is r a v (pushes a xs) es l) ∙
-          after_lost i (room a) (room (next a)) (λ x y. rest r a v (pushes a xs) es l x y) e))
+          ap (λ (t : b.Answer real). vectored m w i t) (word_is r a v (pushes a xs) es l) ∙
+          after_lost i a v (room a) (room (next a)) (λ p q. rest r a v (pushes a xs) es l p q) e
+
+      -- a word that has no place, and words that all have theirs
+      lacking : (xs : List ℕ) (sp : ℕ) (es l : List ℕ) → words_for m.mmu m.ds (length w) sp xs ≡ None → left sp xs es l ≡ refusal 9 m w
+      unfolding words_for
+      lacking [] sp es l e = absurd (cc)
+      lacking (v ∷ xs) sp es l e =
+          go (lacking xs (plus sp 65534)) (word_for m.mmu m.ds (length w) (plus sp 65534) v) refl
+          (words_for m.mmu m.ds (length w) (plus sp 65534) xs) refl e
+        where
+          go : ((es l : List ℕ) → words_for m.mmu m.ds (length w) (plus sp 65534) xs ≡ None → left (plus sp 65534) xs es l ≡ refusal 9 m w) →
+              (o : Option Word) → word_for m.mmu m.ds (length w) (plus sp 65534) v ≡ o → (r : Option (List Word)) →
+              words_for m.mmu m.ds (length w) (plus sp 65534) xs ≡ r → onto o r ≡ None → left sp (v ∷ xs) es l ≡ refusal 9 m w
+          go f None h r k u = lost sp v xs es l h
+          go f (Some x) h None k u = sym (on sp v xs es l x h) ∙ f (marking m.mmu x es) (storing x l) k
+          go f (Some x) h (Some ws) k u = absurd (cc)
+
+      all_on : (xs : List ℕ) (sp : ℕ) (es l : List ℕ) (ws : List Word) → words_for m.mmu m.ds (length w) sp xs ≡ Some ws →
+          left (lowered sp xs) [] (all_marking m.mmu ws es) (all_storing ws l) ≡ left sp xs es l
+      unfolding words_for all_marking all_storing lowered
+      all_on [] sp es l ws e = let z : ws ≡ [] = cc in rw z
+      all_on (v ∷ xs) sp es l ws e =
+          let a = plus sp 65534 in
+          let o = onto_some (word_for m.mmu m.ds (length w) a v) (words_for m.mmu m.ds (length w) a xs) ws e in
+          rw o.all (all_on xs a (marking m.mmu o.x es) (storing o.x l) o.xs o.rest ∙ on sp v xs es l o.x o.one)
 
       -- memory ends before the vector does
-      out : ltb (i + 3) (length w) ≡ false → (xs : List ℕ) (sp : ℕ) (es l : List ℕ) → length l ≡ length w → left sp xs es l ≡ refusal 9 m w
+      out : length w ≤ i + 3 → (xs : List ℕ) (sp : ℕ) (es l : List ℕ) → length l ≡ length w → left sp xs es l ≡ refusal 9 m w
       unfolding left pushes b.writes b.finish vectored all_passed rest
       out t [] sp es l n =
-          rw (word_out l (i + 2) (omega (arith, ltb-false (i + 3) (length w) t))) (entered_out _ _)
+          rw (word_out l (i + 2) (omega (arith, t))) (entered_out _ _)
       out t (v ∷ xs) sp es l n =
           let a = plus sp 65534 in
           let r = with_ssp (lowered m.regs.ssp vs) m.regs in
@@ -169,161 +236,24 @@ module _ (m : Machine) (w : List ℕ) where
           (λ p q. out t xs a (marked_word m.mmu a es) (stored_word p q v l) (stored_length p q v l ∙ n))
 
       ends : (sp : ℕ) (es l : List ℕ) → lowered m.regs.ssp vs ≡ sp → length l ≡ length w → i + 3 < length w →
-          outcome (entering m es l sp i) l ≡ left sp [] es l
+          delivered (entering m es l sp i) l ≡ left sp [] es l
       unfolding left pushes b.writes b.finish vectored all_passed entered entering
       ends sp es l y n t = rw (y, word_in_lem l i (omega arith), word_in_lem l (i + 2) (omega arith))
 
-outside : (m : Machine) (w : List ℕ) (i : ℕ) (vs : List ℕ) → ltb (i + 3) (length w) ≡ false → refusal 9 m w ≡ saved_at m w i vs
-outside m w i vs t = sym (out m w i vs t vs m.regs.ssp m.ds w refl) ∙ whole m w i vs
+module _ (m : Machine) (w : List ℕ) (offset i : ℕ) (vs : List ℕ) (z : i ≡ vector_at m.ctl offset) where
+  by_vector : saved_at m w i vs ≡ saved m w offset vs
+  unfolding saved
+  by_vector = ap (λ (x : ℕ). saved_at m w x vs) z
 
--- the three words' places, one by one
-each : (g h k : Pair) (p q p2 q2 p3 q3 : ℕ) → places_of g h k ≡ Found p q p2 q2 p3 q3 → (g ≡ At p q) × (h ≡ At p2 q2) × (k ≡ At p3 q3)
-unfolding places_of
-each (At x y) (At x2 y2) (At x3 y3) p q p2 q2 p3 q3 e = (cc, cc, cc)
-each (At x y) (At x2 y2) Nowhere p q p2 q2 p3 q3 e = let z : ◌≡◌ {A = ℕ} 0 1 = cc in absurd (omega arith)
-each (At x y) Nowhere k p q p2 q2 p3 q3 e = let z : ◌≡◌ {A = ℕ} 0 1 = cc in absurd (omega arith)
-each Nowhere h k p q p2 q2 p3 q3 e = let z : ◌≡◌ {A = ℕ} 0 1 = cc in absurd (omega arith)
+  pub outside : length w ≤ i + 3 → refusal 9 m w ≡ saved m w offset vs
+  outside t = sym (out m w i vs t vs m.regs.ssp m.ds w refl) ∙ whole m w i vs ∙ by_vector
 
--- ── two words, and three: what they leave where each has its places, and the refusal where one has none ──
+  pub unplaced : words_for m.mmu m.ds (length w) m.regs.ssp vs ≡ None → refusal 9 m w ≡ saved m w offset vs
+  unplaced e = sym (lacking m w i vs vs m.regs.ssp m.ds w e) ∙ whole m w i vs ∙ by_vector
 
-module _ (m : Machine) (w : List ℕ) (i v u : ℕ) (a a2 : ℕ) (z : a ≡ plus m.regs.ssp 65534) (z2 : a2 ≡ plus a 65534) where
-  abbrev at : ℕ → Pair
-  at x = pair_for m.mmu m.ds (length w) x
-
-  lost_1 : (xs : List ℕ) → Nowhere ≡ at a → refusal 9 m w ≡ saved_at m w i (v ∷ xs)
-  lost_1 xs e = lost m w i (v ∷ xs) m.regs.ssp v xs m.ds w a z e ∙ whole m w i (v ∷ xs)
-
-  module _ (p q : ℕ) (e : At p q ≡ at a) where
-    abbrev marks_1 : List ℕ
-    marks_1 = marked_word m.mmu a m.ds
-
-    abbrev bytes_1 : List ℕ
-    bytes_1 = stored_word p q v w
-
-    on_1 : (xs : List ℕ) → left m w i (v ∷ xs) a xs marks_1 bytes_1 ≡ saved_at m w i (v ∷ xs)
-    on_1 xs = on m w i (v ∷ xs) m.regs.ssp v xs m.ds w a p q z e ∙ whole m w i (v ∷ xs)
-
-    lost_2 : (xs : List ℕ) → Nowhere ≡ at a2 → refusal 9 m w ≡ saved_at m w i (v ∷ u ∷ xs)
-    lost_2 xs e2 = lost m w i (v ∷ u ∷ xs) a u xs marks_1 bytes_1 a2 z2 e2 ∙ on_1 (u ∷ xs)
-
-    module _ (p2 q2 : ℕ) (e2 : At p2 q2 ≡ at a2) where
-      abbrev marks_2 : List ℕ
-      marks_2 = marked_word m.mmu a2 marks_1
-
-      abbrev bytes_2 : List ℕ
-      bytes_2 = stored_word p2 q2 u bytes_1
-
-      on_2 : (xs : List ℕ) → left m w i (v ∷ u ∷ xs) a2 xs marks_2 bytes_2 ≡ saved_at m w i (v ∷ u ∷ xs)
-      on_2 xs = on m w i (v ∷ u ∷ xs) a u xs marks_1 bytes_1 a2 p2 q2 z2 e2 ∙ on_1 (u ∷ xs)
-
-      long_2 : length bytes_2 ≡ length w
-      long_2 = stored_length p2 q2 u (stored_word p q v w) ∙ stored_length p q v w
-
-      ends_2 : i + 3 < length w → outcome (entering m marks_2 bytes_2 a2 i) bytes_2 ≡ saved_at m w i (v ∷ u ∷ [])
-      unfolding lowered
-      ends_2 t = ends m w i (v ∷ u ∷ []) a2 marks_2 bytes_2 (rw (z2, z)) long_2 t ∙ on_2 []
-
-      module _ (k a3 : ℕ) (z3 : a3 ≡ plus a2 65534) where
-        lost_3 : (xs : List ℕ) → Nowhere ≡ at a3 → refusal 9 m w ≡ saved_at m w i (v ∷ u ∷ k ∷ xs)
-        lost_3 xs e3 = lost m w i (v ∷ u ∷ k ∷ xs) a2 k xs marks_2 bytes_2 a3 z3 e3 ∙ on_2 (k ∷ xs)
-
-        module _ (p3 q3 : ℕ) (e3 : At p3 q3 ≡ at a3) where
-          abbrev marks_3 : List ℕ
-          marks_3 = marked_word m.mmu a3 marks_2
-
-          abbrev bytes_3 : List ℕ
-          bytes_3 = stored_word p3 q3 k bytes_2
-
-          on_3 : left m w i (v ∷ u ∷ k ∷ []) a3 [] marks_3 bytes_3 ≡ saved_at m w i (v ∷ u ∷ k ∷ [])
-          on_3 = on m w i (v ∷ u ∷ k ∷ []) a2 k [] marks_2 bytes_2 a3 p3 q3 z3 e3 ∙ on_2 (k ∷ [])
-
-          long_3 : length bytes_3 ≡ length w
-          long_3 = stored_length p3 q3 k bytes_2 ∙ long_2
-
-          pub ends_3 : i + 3 < length w → outcome (entering m marks_3 bytes_3 a3 i) bytes_3 ≡ saved_at m w i (v ∷ u ∷ k ∷ [])
-          unfolding lowered
-          ends_3 t = ends m w i (v ∷ u ∷ k ∷ []) a3 marks_3 bytes_3 (rw (z3, z2, z)) long_3 t ∙ on_3
-
-  none_2 : (g g2 : Pair) → g ≡ at a → g2 ≡ at a2 → places_of g g2 g2 ≡ Lost → refusal 9 m w ≡ saved_at m w i (v ∷ u ∷ [])
-  unfolding places_of
-  none_2 (At p q) (At p2 q2) e e2 h = let y : ◌≡◌ {A = ℕ} 0 1 = cc in absurd (omega arith)
-  none_2 (At p q) Nowhere e e2 h = lost_2 p q e [] e2
-  none_2 Nowhere g2 e e2 h = lost_1 (u ∷ []) e
-
-  none_3 : (k a3 : ℕ) → a3 ≡ plus a2 65534 → (g g2 g3 : Pair) → g ≡ at a → g2 ≡ at a2 → g3 ≡ at a3 → places_of g g2 g3 ≡ Lost →
-      refusal 9 m w ≡ saved_at m w i (v ∷ u ∷ k ∷ [])
-  unfolding places_of
-  none_3 k a3 z3 (At p q) (At p2 q2) (At p3 q3) e e2 e3 h = let y : ◌≡◌ {A = ℕ} 0 1 = cc in absurd (omega arith)
-  none_3 k a3 z3 (At p q) (At p2 q2) Nowhere e e2 e3 h = lost_3 p q e p2 q2 e2 k a3 z3 [] e3
-  none_3 k a3 z3 (At p q) Nowhere g3 e e2 e3 h = lost_2 p q e (k ∷ []) e2
-  none_3 k a3 z3 Nowhere g2 g3 e e2 e3 h = lost_1 (u ∷ k ∷ []) e
-
-  pub refused_2 : (t : Places) (r : Delivered) → t ≡ places_for m.mmu m.ds (length w) a a2 a2 → t ≡ Lost → r ≡ refusing 9 m →
-      outcome r w ≡ saved_at m w i (v ∷ u ∷ [])
-  unfolding places_for
-  refused_2 t r n h x = rw x (none_2 (at a) (at a2) refl refl (sym n ∙ h))
-
-  pub refused_3 : (k a3 : ℕ) → a3 ≡ plus a2 65534 → (t : Places) (r : Delivered) → t ≡ places_for m.mmu m.ds (length w) a a2 a3 → t ≡ Lost →
-      r ≡ refusing 9 m → outcome r w ≡ saved_at m w i (v ∷ u ∷ k ∷ [])
-  unfolding places_for
-  refused_3 k a3 z3 t r n h x = rw x (none_3 k a3 z3 (at a) (at a2) (at a3) refl refl refl (sym n ∙ h))
-
-  pub done_2 : (t : Places) (p q p2 q2 p3 q3 : ℕ) (x y : Word) (es l : List ℕ) (r : Delivered) → t ≡ places_for m.mmu m.ds (length w) a a2 a2 →
-      t ≡ Found p q p2 q2 p3 q3 → x ≡ word_of a p q v → y ≡ word_of a2 p2 q2 u → es ≡ marking m.mmu y (marking m.mmu x m.ds) →
-      l ≡ storing y (storing x w) → i + 3 < length w → r ≡ entering m es l a2 i → outcome r l ≡ saved_at m w i (v ∷ u ∷ [])
-  unfolding places_for
-  done_2 t p q p2 q2 p3 q3 x y es l r n h ex ey ees el in_memory er =
-      let s = each (at a) (at a2) (at a2) p q p2 q2 p3 q3 (sym n ∙ h) in
-      rw (er, ees, el, ex, ey) (ends_2 p q (sym s.0) p2 q2 (sym s.1) in_memory)
-
-  pub done_3 : (k a3 : ℕ) → a3 ≡ plus a2 65534 → (t : Places) (p q p2 q2 p3 q3 : ℕ) (x y f : Word) (es l : List ℕ) (r : Delivered) →
-      t ≡ places_for m.mmu m.ds (length w) a a2 a3 → t ≡ Found p q p2 q2 p3 q3 → x ≡ word_of a p q v → y ≡ word_of a2 p2 q2 u →
-      f ≡ word_of a3 p3 q3 k → es ≡ marking m.mmu f (marking m.mmu y (marking m.mmu x m.ds)) →
-      l ≡ storing f (storing y (storing x w)) → i + 3 < length w → r ≡ entering m es l a3 i → outcome r l ≡ saved_at m w i (v ∷ u ∷ k ∷ [])
-  unfolding places_for
-  done_3 k a3 z3 t p q p2 q2 p3 q3 x y f es l r n h ex ey ef ees el in_memory er =
-      let s = each (at a) (at a2) (at a3) p q p2 q2 p3 q3 (sym n ∙ h) in
-      rw (er, ees, el, ex, ey, ef) (ends_3 p q (sym s.0) p2 q2 (sym s.1) k a3 z3 p3 q3 (sym s.2) in_memory)
-
--- the places lie in memory
-module _ (mmu : ℕ) (ds : List ℕ) (n a a2 a3 p q p2 q2 p3 q3 : ℕ) (t : Places) (h : t ≡ places_for mmu ds n a a2 a3)
-    (f : t ≡ Found p q p2 q2 p3 q3) where
-  word_fits : (b x y v : ℕ) (z : Word) → pair_for mmu ds n b ≡ At x y → z ≡ word_of b x y v → (z.low < n) × (z.high < n)
-  word_fits b x y v z e ez = rw ez (fits mmu ds n b x y (pair_for mmu ds n b) refl e)
-
-  three : (pair_for mmu ds n a ≡ At p q) × (pair_for mmu ds n a2 ≡ At p2 q2) × (pair_for mmu ds n a3 ≡ At p3 q3)
-  unfolding places_for
-  three = each (pair_for mmu ds n a) (pair_for mmu ds n a2) (pair_for mmu ds n a3) p q p2 q2 p3 q3 (sym h ∙ f)
-
-  pub fit_2 : (v u : ℕ) (x y : Word) → x ≡ word_of a p q v → y ≡ word_of a2 p2 q2 u →
-      (x.low < n) × ((x.high < n) × ((y.low < n) × (y.high < n)))
-  fit_2 v u x y ex ey =
-      let k = word_fits a p q v x three.0 ex in
-      let l = word_fits a2 p2 q2 u y three.1 ey in (k.0, (k.1, (l.0, l.1)))
-
-  pub fit_3 : (v u o : ℕ) (x y z : Word) → x ≡ word_of a p q v → y ≡ word_of a2 p2 q2 u → z ≡ word_of a3 p3 q3 o →
-      (x.low < n) × ((x.high < n) × ((y.low < n) × ((y.high < n) × ((z.low < n) × (z.high < n)))))
-  fit_3 v u o x y z ex ey ez =
-      let k = word_fits a p q v x three.0 ex in
-      let l = word_fits a2 p2 q2 u y three.1 ey in
-      let j = word_fits a3 p3 q3 o z three.2 ez in (k.0, (k.1, (l.0, (l.1, (j.0, j.1)))))
-
--- the vector lies in memory after the pushes too
-pub within_2 : (i p q v p2 q2 u : ℕ) (w l : List ℕ) → l ≡ stored_word p2 q2 u (stored_word p q v w) → i + 3 < length w → i + 3 < length l
-within_2 i p q v p2 q2 u w l e h = rw (e, stored_length p2 q2 u (stored_word p q v w), stored_length p q v w) h
-
-pub within_3 : (i p q v p2 q2 u p3 q3 k : ℕ) (w l : List ℕ) → l ≡ stored_word p3 q3 k (stored_word p2 q2 u (stored_word p q v w)) →
-    i + 3 < length w → i + 3 < length l
-within_3 i p q v p2 q2 u p3 q3 k w l e h =
-    let x = stored_word p2 q2 u (stored_word p q v w) in
-    rw (e, stored_length p3 q3 k x) (within_2 i p q v p2 q2 u w x refl h)
-
--- by an offset
-pub by_vector : (m : Machine) (w : List ℕ) (offset : ℕ) (vs : List ℕ) (i : ℕ) (o : Outcome) → i ≡ vector_at m.ctl offset → o ≡ saved_at m w i vs →
-    o ≡ saved m w offset vs
-unfolding saved
-by_vector m w offset vs i o z k = k ∙ ap (λ (x : ℕ). saved_at m w x vs) z
-
-pub missing : (m : Machine) (w : List ℕ) (offset : ℕ) (vs : List ℕ) (i : ℕ) (r : Delivered) → i ≡ vector_at m.ctl offset →
-    ltb (i + 3) (length w) ≡ false → r ≡ refusing 9 m → outcome r w ≡ saved m w offset vs
-missing m w offset vs i r z t x = by_vector m w offset vs i (outcome r w) z (rw x (outside m w i vs t))
+  pub done : i + 3 < length w → (ws : List Word) → words_for m.mmu m.ds (length w) m.regs.ssp vs ≡ Some ws →
+      delivered (entering m (all_marking m.mmu ws m.ds) (all_storing ws w) (last_at m.regs.ssp ws) i) (all_storing ws w) ≡ saved m w offset vs
+  done t ws e =
+      rw (last_lowered m.mmu m.ds (length w) vs m.regs.ssp ws e)
+      (ends m w i vs (lowered m.regs.ssp vs) (all_marking m.mmu ws m.ds) (all_storing ws w) refl (stored_all ws w) t ∙
+      all_on m w i vs vs m.regs.ssp m.ds w ws e ∙ whole m w i vs ∙ by_vector)

@@ -1,5 +1,5 @@
 -- Saving status and taking the new one: document 01, with sections 6.4.2 to 6.6 of the manual (lines 7704 to 7813).
-use Rattle.std.specs.Prelude.{ℕ, ◌+◌, ◌*◌, ◌/◌, Bool, true, false, cond, List, [], ◌∷◌, ◌++◌}
+use Rattle.std.specs.Prelude.{ℕ, ◌+◌, ◌*◌, ◌/◌, Bool, true, false, cond, List, [], ◌∷◌, ◌++◌, Result}
 use Rattle.std.proofs.Math.Option.{Option, none, some}
 use Rattle.regs.specs.declared.Control.{Control}
 use Rattle.regs.specs.declared.Machine.{Machine}
@@ -8,23 +8,29 @@ use Rattle.plan.specs.Kinds.{plus}
 use Rattle.board.specs.Program as b
 use Rattle.bus.specs.Board.{real, load_at}
 use Rattle.bus.specs.Leave.{state_of, two_writes}
-use Rattle.saves.specs.declared.Delivered.{Delivered}
+use Rattle.legal.specs.declared.refusal.Refusal.{Refusal}
+use Rattle.legal.specs.Refusal.{refused_by}
+
+-- an answer: 0 or the refusal's number, and the machine
+pub record Delivered : Type 0 where
+  pub refusal : ℕ
+  pub machine : Machine
 
 -- the answer, and memory afterwards
 pub record Outcome : Type 0 where
   pub answer : Delivered
   pub memory : List ℕ
 
-abbrev pub outcome : Delivered → List ℕ → Outcome
-outcome r w = record { answer = r; memory = w }
+abbrev pub delivered : Machine → List ℕ → Outcome
+delivered m w = record { answer = record { refusal = 0; machine = m }; memory = w }
 
--- a refusal hands the record back
-abbrev pub refusing : ℕ → Machine → Delivered
-refusing k m = record { refusal = k; machine = m }
-
--- .. and no byte changes
+-- a refusal hands the record back, and no byte changes
 abbrev pub refusal : ℕ → Machine → List ℕ → Outcome
-refusal k m w = outcome (refusing k m) w
+refusal k m w = record { answer = record { refusal = k; machine = m }; memory = w }
+
+-- of a call that answered r, and left the record m and the memory w
+abbrev pub outcome : Result (Unit {0}) Refusal → Machine → List ℕ → Outcome
+outcome r m w = record { answer = record { refusal = refused_by r; machine = m }; memory = w }
 
 -- ── saving status (6.4.2, line 7704) ──
 
@@ -65,12 +71,7 @@ word_at w p = both (load_at w p) (load_at w (p + 1))
 -- an MSR value, then a PC value (line 7757); s is what the pushes left
 unfoldable pub entered : Machine → List ℕ → b.State real → (msr pc : Option ℕ) → Outcome
 entered m w s (some msr) (some pc) =
-    outcome
-    (record {
-      refusal = 0;
-      machine = record { regs = with_pc pc s.regs; ctl = load_msr msr m.ctl; mmu = m.mmu; ds = s.ds };
-    })
-    s.mem
+    delivered (record { regs = with_pc pc s.regs; ctl = load_msr msr m.ctl; mmu = m.mmu; ds = s.ds }) s.mem
 entered m w s (some msr) none = refusal 9 m w
 entered m w s none pc = refusal 9 m w
 

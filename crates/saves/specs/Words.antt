@@ -1,35 +1,37 @@
--- What the private functions of delivery answer: a word's two places, a word pushed, a word read, the new status.
-use Rattle.std.specs.Prelude.{ℕ, ◌+◌, ◌*◌, ◌/◌, ◌%◌, false, List, get_or, set, Result, Ok, Err}
+-- What the private functions of delivery answer: a word with its two places, words pushed, a word read, the new status.
+use Rattle.std.specs.Prelude.{ℕ, ◌+◌, ◌*◌, ◌/◌, ◌%◌, ◌<◌, false, List, [], ◌∷◌, get_or, set, Option, Some, None, Result, Ok, Err, All}
 use Rattle.regs.specs.declared.Machine.{Machine}
 use Rattle.regs.specs.Change.{with_pc, with_ssp, load_msr}
 use Rattle.mmu.specs.Translate.{mode_bits, marked}
 use Rattle.board.specs.declared.Fault.{Fault}
 use Rattle.bus.specs.Access.{next, room_for}
-use Rattle.saves.specs.declared.Delivered.{Delivered}
-use Rattle.saves.specs.declared.places.Pair.{Pair}
-use Rattle.saves.specs.declared.places.Pair.TheVariants.{At, Nowhere}
-use Rattle.saves.specs.declared.places.Places.{Places}
-use Rattle.saves.specs.declared.places.Places.TheVariants.{Found, Lost}
+use Rattle.plan.specs.Kinds.{plus}
 use Rattle.saves.specs.declared.pushing.Word.{Word}
 use Rattle.saves.specs.Saves.{Outcome, pushed, vectored}
 
-unfoldable pub pair_of : Result ℕ Fault → Result ℕ Fault → Pair
-pair_of (Ok p) (Ok q) = At p q
-pair_of (Ok p) (Err e) = Nowhere
-pair_of (Err e) h = Nowhere
+abbrev pub word_of : (at low high value : ℕ) → Word
+word_of at low high value = record { at = at; low = low; high = high; value = value }
 
--- where the bytes of a word that is pushed at a go: system mode, data
-unfoldable pub pair_for : (mmu : ℕ) (ds : List ℕ) (size a : ℕ) → Pair
-pair_for mmu ds size a = pair_of (room_for false mmu ds size false a) (room_for false mmu ds size false (next a))
+unfoldable pub both_places : (at value : ℕ) → Result ℕ Fault → Result ℕ Fault → Option Word
+both_places at v (Ok p) (Ok q) = Some (word_of at p q v)
+both_places at v (Ok p) (Err f) = None
+both_places at v (Err f) h = None
 
-unfoldable pub places_of : (g h k : Pair) → Places
-places_of (At p q) (At p2 q2) (At p3 q3) = Found p q p2 q2 p3 q3
-places_of (At p q) (At p2 q2) Nowhere = Lost
-places_of (At p q) Nowhere k = Lost
-places_of Nowhere h k = Lost
+-- a word that is pushed at a, with its bytes' places: system mode, data
+unfoldable pub word_for : (mmu : ℕ) (ds : List ℕ) (size a value : ℕ) → Option Word
+word_for mmu ds size a v =
+    both_places a v (room_for false mmu ds size false a) (room_for false mmu ds size false (next a))
 
-unfoldable pub places_for : (mmu : ℕ) (ds : List ℕ) (size a b d : ℕ) → Places
-places_for mmu ds size a b d = places_of (pair_for mmu ds size a) (pair_for mmu ds size b) (pair_for mmu ds size d)
+-- a word before those that are left, where all are there
+abbrev pub onto : Option Word → Option (List Word) → Option (List Word)
+onto None r = None
+onto (Some x) None = None
+onto (Some x) (Some xs) = Some (x ∷ xs)
+
+unfoldable pub words_for : (mmu : ℕ) (ds : List ℕ) (size sp : ℕ) → List ℕ → Option (List Word)
+words_for mmu ds size sp [] = Some []
+words_for mmu ds size sp (v ∷ vs) =
+    onto (word_for mmu ds size (plus sp 65534) v) (words_for mmu ds size (plus sp 65534) vs)
 
 unfoldable pub marked_word : (mmu a : ℕ) → List ℕ → List ℕ
 marked_word mmu a ds =
@@ -38,9 +40,6 @@ marked_word mmu a ds =
 unfoldable pub stored_word : (p q v : ℕ) → List ℕ → List ℕ
 stored_word p q v w = set (set w p (v % 256)) q (v / 256)
 
-abbrev pub word_of : (at low high value : ℕ) → Word
-word_of at low high value = record { at = at; low = low; high = high; value = value }
-
 -- what pushing a word leaves of descriptors and of memory
 abbrev pub marking : (mmu : ℕ) → Word → List ℕ → List ℕ
 marking mmu x ds = marked_word mmu x.at ds
@@ -48,20 +47,33 @@ marking mmu x ds = marked_word mmu x.at ds
 abbrev pub storing : Word → List ℕ → List ℕ
 storing x w = stored_word x.low x.high x.value w
 
+-- .. and what pushing words one after another leaves, with SP
+unfoldable pub all_marking : (mmu : ℕ) → List Word → List ℕ → List ℕ
+all_marking mmu [] ds = ds
+all_marking mmu (x ∷ xs) ds = all_marking mmu xs (marking mmu x ds)
+
+unfoldable pub all_storing : List Word → List ℕ → List ℕ
+all_storing [] w = w
+all_storing (x ∷ xs) w = all_storing xs (storing x w)
+
+unfoldable pub last_at : ℕ → List Word → ℕ
+last_at sp [] = sp
+last_at sp (x ∷ xs) = last_at x.at xs
+
+-- each byte's place is below n
+abbrev pub InMemory : (n : ℕ) → List Word → Type 0
+InMemory n xs = All (λ x. (x.low < n) × (x.high < n)) xs
+
 abbrev pub word_in : List ℕ → ℕ → ℕ
 word_in w i = get_or w i 0 + get_or w (i + 1) 0 * 256
 
-unfoldable pub entering : Machine → (ds w : List ℕ) (sp i : ℕ) → Delivered
+unfoldable pub entering : Machine → (ds w : List ℕ) (sp i : ℕ) → Machine
 entering m ds w sp i =
     record {
-      refusal = 0;
-      machine =
-          record {
-            regs = with_pc (word_in w (i + 2)) (with_ssp sp m.regs);
-            ctl = load_msr (word_in w i) m.ctl;
-            mmu = m.mmu;
-            ds = ds;
-          };
+      regs = with_pc (word_in w (i + 2)) (with_ssp sp m.regs);
+      ctl = load_msr (word_in w i) m.ctl;
+      mmu = m.mmu;
+      ds = ds;
     }
 
 -- a delivery by the vector at i

@@ -1,67 +1,45 @@
 // Where the bytes of the words pushed go.
-ghost use Rattle.std.specs.Prelude.{◌≡◌};
-ghost use Rattle.saves.specs.Words.{pair_for, pair_of, places_of, places_for};
+ghost use Rattle.std.specs.Prelude.{◌≡◌, ◌<◌, ◌^◌};
+ghost use Rattle.saves.specs.Words.{word_for, words_for};
 
-use board::Fault;
+use crate::pushing::Word;
 use bus::read::next_of;
 use bus::store::room_for;
 use mmu::Mode;
+use plan::kinds::plus16;
 
-// The physical addresses of the bytes of a word.
-#[derive(Clone, Copy)]
-pub enum Pair {
-    At(u64, u64),
-    Nowhere,
-}
-
-// .. and of three words.
-#[derive(Clone, Copy)]
-pub enum Places {
-    Found(u64, u64, u64, u64, u64, u64),
-    Lost,
-}
-
-#[tactic(auto, unfolding(crate::specs::Words::pair_of))]
-fn pair_of(g: Result<u64, Fault>, h: Result<u64, Fault>) -> Pair
-    ensures { result ≡ pair_of g h }
-{
-    match (g, h) {
-        (Ok(p), Ok(q)) => Pair::At(p, q),
-        _ => Pair::Nowhere,
-    }
-}
-
-// Where a word that is pushed at a goes: system mode, data, writes.
-#[tactic(auto, unfolding(crate::specs::Words::pair_for))]
-fn pair_for(control: u16, ds: &[u16; 32], size: usize, a: u16) -> Pair
-    ensures { result ≡ pair_for control ds.now size a }
+// A word that is pushed at `at`, with the places of its bytes: system mode, data, writes.
+#[tactic(auto, unfolding(crate::specs::Words::word_for, crate::specs::Words::both_places))]
+fn word_for(control: u16, ds: &[u16; 32], size: usize, at: u16, value: u16) -> Option<Word>
+    ensures { result ≡ word_for control ds.now size at value }
 {
     let mode = Mode::of(control, false);
-    let g = room_for(mode, ds, size, false, a);
-    let h = room_for(mode, ds, size, false, next_of(a));
-    pair_of(g, h)
+    let low = room_for(mode, ds, size, false, at).ok()?;
+    let high = room_for(mode, ds, size, false, next_of(at)).ok()?;
+    Some(Word {
+        at,
+        low,
+        high,
+        value,
+    })
 }
 
-fn places_of(g: Pair, h: Pair, k: Pair) -> Places
-    ensures { result ≡ places_of g h k }
+// The words that are pushed from sp down, if each has its places.
+pub fn words_for<const N: usize>(
+    control: u16,
+    ds: &[u16; 32],
+    size: usize,
+    sp: u16,
+    values: [u16; N],
+) -> Option<[Word; N]>
+    requires { N < 2 ^ 32 }
+    ensures { result ≡ words_for control ds.now size sp values.entry }
 {
-    let Pair::At(p, q) = g else {
-        return Places::Lost;
-    };
-    let Pair::At(p2, q2) = h else {
-        return Places::Lost;
-    };
-    let Pair::At(p3, q3) = k else {
-        return Places::Lost;
-    };
-    Places::Found(p, q, p2, q2, p3, q3)
-}
-
-pub fn places_for(control: u16, ds: &[u16; 32], size: usize, a: u16, b: u16, d: u16) -> Places
-    ensures { result ≡ places_for control ds.now size a b d }
-{
-    let g = pair_for(control, ds, size, a);
-    let h = pair_for(control, ds, size, b);
-    let k = pair_for(control, ds, size, d);
-    places_of(g, h, k)
+    let mut xs = [Word::UNPLACED; N];
+    let mut at = sp;
+    for i in 0..N {
+        at = plus16(at, 65534);
+        xs[i] = word_for(control, ds, size, at, values[i])?;
+    }
+    Some(xs)
 }

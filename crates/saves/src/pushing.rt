@@ -1,6 +1,6 @@
 // Words pushed one after another: the bytes stored, the pages marked.
 ghost use Rattle.std.specs.Prelude.{◌≡◌, ◌<◌, length};
-ghost use Rattle.saves.specs.Words.{word_of, marking, storing};
+ghost use Rattle.saves.specs.Words.{marking, storing, InMemory, all_marking, all_storing, last_at};
 
 use bus::read::next_of;
 use mmu::Mode;
@@ -8,21 +8,19 @@ use mmu::Mode;
 // A word to be stored, its logical address, and the physical addresses of its bytes.
 #[derive(Clone, Copy)]
 pub struct Word {
-    at: u16,
-    low: u64,
-    high: u64,
-    value: u16,
+    pub at: u16,
+    pub low: u64,
+    pub high: u64,
+    pub value: u16,
 }
 
-pub fn word_at(at: u16, low: u64, high: u64, value: u16) -> Word
-    ensures { result ≡ word_of at low high value }
-{
-    Word {
-        at,
-        low,
-        high,
-        value,
-    }
+impl Word {
+    pub const UNPLACED: Word = Word {
+        at: 0,
+        low: 0,
+        high: 0,
+        value: 0,
+    };
 }
 
 fn push(control: u16, ds: &mut [u16; 32], w: &mut [u8], x: Word)
@@ -40,28 +38,17 @@ fn push(control: u16, ds: &mut [u16; 32], w: &mut [u8], x: Word)
     mode.mark(ds, false, next_of(x.at));
 }
 
-pub fn push_two(control: u16, ds: &mut [u16; 32], w: &mut [u8], x: Word, y: Word)
-    requires low_in_bounds { x.low < length w.old }
-    requires high_in_bounds { x.high < length w.old }
-    requires low_in_bounds_2 { y.low < length w.old }
-    requires high_in_bounds_2 { y.high < length w.old }
-    ensures ds_after { ds.new ≡ marking control y (marking control x ds.old) }
-    ensures w_after { w.new ≡ storing y (storing x w.old) }
+// Answers the stack pointer after them.
+pub fn push_all(control: u16, ds: &mut [u16; 32], w: &mut [u8], sp: u16, xs: &[Word]) -> u16
+    requires { InMemory (length w.old) xs.now }
+    ensures sp_after { result ≡ last_at sp xs.now }
+    ensures ds_after { ds.new ≡ all_marking control xs.now ds.old }
+    ensures w_after { w.new ≡ all_storing xs.now w.old }
 {
-    push(control, ds, w, x);
-    push(control, ds, w, y);
-}
-
-pub fn push_three(control: u16, ds: &mut [u16; 32], w: &mut [u8], x: Word, y: Word, z: Word)
-    requires low_in_bounds { x.low < length w.old }
-    requires high_in_bounds { x.high < length w.old }
-    requires low_in_bounds_2 { y.low < length w.old }
-    requires high_in_bounds_2 { y.high < length w.old }
-    requires low_in_bounds_3 { z.low < length w.old }
-    requires high_in_bounds_3 { z.high < length w.old }
-    ensures ds_after { ds.new ≡ marking control z (marking control y (marking control x ds.old)) }
-    ensures w_after { w.new ≡ storing z (storing y (storing x w.old)) }
-{
-    push_two(control, ds, w, x, y);
-    push(control, ds, w, z);
+    let mut last = sp;
+    for x in xs {
+        push(control, ds, w, *x);
+        last = x.at;
+    }
+    last
 }

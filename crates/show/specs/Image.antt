@@ -3,12 +3,10 @@ use Rattle.std.specs.Prelude.{ℕ, ◌*◌, cond, List, ◌++◌, eqb, length, t
 use Rattle.board.specs.Run as n
 use Rattle.regs.specs.declared.Machine.{Machine}
 use Rattle.bus.specs.Board.{real}
-use Rattle.form.specs.declared.Restored.{Restored}
-use Rattle.form.specs.Form.{form_length, read_form}
+use Rattle.form.specs.Form.{Reading, form_length, read_form}
 use Rattle.events.specs.Events.{event_numbers}
 use Rattle.host.specs.Host.{run_of}
-use Rattle.line.specs.declared.Shown.{Shown}
-use Rattle.line.specs.declared.Shown.TheVariants.{Refused, Ended}
+use Rattle.line.specs.Line.{Shown, Refused, Ended}
 
 -- ---- the answer, with the bytes of the input afterwards
 
@@ -34,7 +32,7 @@ abbrev pub length_named : (version : ℕ) → ℕ
 length_named version = form_length
 
 -- n bytes of s are the form, r what it reads as; the form's refusals come first
-unfoldable pub answered : (s : List ℕ) (n : ℕ) (r : Restored) → Outcome
+unfoldable pub answered : (s : List ℕ) (n : ℕ) (r : Reading) → Outcome
 answered s n r =
     cond (eqb r.refusal 0) (after (take n s) (worked r.machine r.frames (drop n s))) (outcome (Refused r.refusal) s)
 

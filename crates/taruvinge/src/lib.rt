@@ -1,6 +1,5 @@
-// The machine's public face for Rattle (that for C is crate `z280`): every public call and type. A call refuses by a number of document
-// 01 (0: none), in the order that is given here; a refused call changes no lent byte and hands the record back as it was, where nothing
-// else is said.
+// The machine's public face for Rattle (that for C is crate `z280`): every public call and type. A call refuses by a `Refusal`, in the
+// order that is given here by the numbers of document 01; a refused call changes neither the record nor a byte lent to it.
 #![tactic(auto)]
 
 // The machine record: registers, control registers, MMU control, 32 page descriptors.
@@ -15,22 +14,21 @@ pub use bus::kinds::Event;
 // Events 3 to 9, with what each carries.
 pub use plan::kinds::Stop;
 
-// What a step answers: refusal, machine, event.
-pub use host::Stepped;
-// What a run answers: refusal, machine, event, steps completed.
+// Why a call did nothing: document 01's refusals 1 to 10.
+pub use legal::refusal::Refusal;
+
+// What a run answers: event, steps completed.
 pub use host::Ran;
-// What delivery answers: refusal, machine.
-pub use saves::Delivered;
-// What making valid answers: refusal, machine.
-pub use valid::Made;
-// What the reader answers: refusal, machine, frames of its memory.
+// What the reader answers: machine, frames of its memory.
 pub use form::Restored;
+// What it answers of a form that it refuses: refusal, and the reset record with one frame.
+pub use form::Unread;
 
 // The reset record: zero throughout. Refuses nothing.
 pub use legal::reset;
-// One step on the lent memory. Refusals 1, 2; refused, event 0.
+// One step of the lent record on the lent memory: its event. Refusals 1, 2.
 pub use host::step;
-// Up to `budget` steps, to the first event other than 0. Refusals 1, 2; refused, event 0 and no steps.
+// Up to `budget` steps, to the first event other than 0. Refusals 1, 2.
 pub use host::run;
 // Delivers the trap of event 1, 3, 4 or 7. Refusals 1, 2, 8, 9.
 pub use deliver::deliver;
@@ -38,5 +36,5 @@ pub use deliver::deliver;
 pub use valid::make_valid;
 // Writes the stored form into the first 101 bytes of a buffer. Refusals 1, 2, 3.
 pub use form::write_form;
-// Reads a stored form. Refusals 3, 4, 10, 2, 5; refused, it gives the reset record and one frame.
+// Reads a stored form. Refusals 3, 4, 10, 2, 5.
 pub use form::read_form;

@@ -10,6 +10,8 @@ use lib.Dec.{eqb, leb, ltb}
 use lib.ListN.{length, get_or}
 use borrow.Author.Tests.{eqb-true}
 use Rattle.pack.specs.Pack.{unpack}
+use Rattle.std.specs.Prelude as std
+use Rattle.std.specs.Prelude.{Some, None}
 use Rattle.mmu.specs.Translate.{valid}
 use Rattle.board.specs.Program.{State}
 use Rattle.board.specs.Run.{ended}
@@ -22,7 +24,7 @@ use Rattle.host.specs.Host.{machine_in, refusal_of, run_of, step_of}
 use Rattle.valid.specs.Valid.{unmade, made_valid, make_valid}
 use Rattle.saves.specs.Saves.{Outcome, refusal, pushed, all_passed, entered, vectored, saved}
 use Rattle.deliver.specs.declared.traps.Trap.{Trap}
-use Rattle.deliver.specs.declared.traps.Trap.TheVariants.{Two, Three, Undelivered}
+use Rattle.deliver.specs.declared.traps.Trap.TheVariants.{Two, Three}
 use Rattle.deliver.specs.Deliver.{trap_of, taken, deliver_of}
 use Rattle.form.specs.Form.{widths, machine_of, frames_of, read_fields, read_form, refused, restored}
 use Rattle.theorems.specs.Withhold.{withheld, Withheld, hosted, Alike}
@@ -112,11 +114,11 @@ module _ (m : Machine) (w : List ℕ) (h : allowed_bits m ≡ true) where
   unfolding saved vectored
   saved_two offset vs = entered_two (all_passed (pushed m w vs).event) (pushed m w vs).state _ _
 
-  taken_two : (t : Trap) → Fits (taken m w t)
+  taken_two : (t : std.Option Trap) → Fits (taken m w t)
   unfolding taken Fits
-  taken_two (Two offset a) = saved_two offset (a ∷ m.ctl.msr ∷ [])
-  taken_two (Three offset a v) = saved_two offset (a ∷ m.ctl.msr ∷ v ∷ [])
-  taken_two Undelivered = h
+  taken_two (Some (Two offset a)) = saved_two offset (a ∷ m.ctl.msr ∷ [])
+  taken_two (Some (Three offset a v)) = saved_two offset (a ∷ m.ctl.msr ∷ v ∷ [])
+  taken_two None = h
 
   choice_two : (a b : Bool) (o : Outcome) → Fits o → Fits (cond a (cond b o (refusal 2 m w)) (refusal 1 m w))
   unfolding Fits

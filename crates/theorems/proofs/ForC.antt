@@ -34,6 +34,7 @@ use Rattle.host.proofs.Laws.{run_one}
 use Rattle.valid.specs.Valid.{make_valid}
 use Rattle.saves.specs.Saves as saves
 use Rattle.deliver.specs.Deliver.{stopped, trap_of, deliver_of}
+use Rattle.lent.proofs.Laws.{taken}
 use Rattle.lent.specs.Lent.{Formed, formed, reset_form, lent_refusal, completed_by, Moved, moved, delivered_back, deliver_read, deliver_form, made_back, make_read, make_form}
 use Rattle.z280.specs.Calls.{Answered, answered, went, step_read, step_form, run_read, run_form}
 use Rattle.theorems.specs.Refusals.{Test, refusal_by, deliverable, fatal, read_tests}
@@ -120,25 +121,12 @@ after_lent s w e x =
 
 -- ── buffers that are taken ──
 
-passed : (r : ℕ) (f g : Bool) → cond (not (eqb r 0)) r (cond (not f) 1 (cond (not g) 3 0)) ≡ 0 → (r ≡ 0) × (f ≡ true)
-passed r f g h = go (eqb r 0) refl f g h
-  where
-    go : (z : Bool) → eqb r 0 ≡ z → (f g : Bool) → cond (not z) r (cond (not f) 1 (cond (not g) 3 0)) ≡ 0 → (r ≡ 0) × (f ≡ true)
-    go true e true g h = (eqb-true r 0 e, refl)
-    go true e false g h = absurd (omega (arith, h))
-    go false e f g h = absurd (eqb-false r 0 e h)
-
 module _ (s w e : List ℕ) (h : lent_refusal (read_form s) (length w) (length e) ≡ 0) where
-  read_whole : ((read_form s).refusal ≡ 0) × (length w ≡ (read_form s).frames * 4096)
-  unfolding lent_refusal
-  read_whole =
-      let p = passed (read_form s).refusal (eqb (length w) ((read_form s).frames * 4096)) (eqb (length e) 12) h in
-      (p.0, eqb-true (length w) ((read_form s).frames * 4096) p.1)
-
   frames_whole : whole_frames (length w) ≡ true
   frames_whole =
-      let a = accepted s read_whole.0 in
-      ap whole_frames read_whole.1 ∙ whole (read_form s).frames a.some a.few
+      let t = taken (read_form s) (length w) (length e) h in
+      let a = accepted s t.0 in
+      ap whole_frames t.1 ∙ whole (read_form s).frames a.some a.few
 
   worked : refusal_of (read_form s).machine (length w) ≡ 0
   worked = passes (read_form s).machine (length w) frames_whole (never_two.read s)

@@ -21,7 +21,7 @@ use Rattle.bus.specs.Board.{real}
 use Rattle.cpu.specs.Program.{program}
 use Rattle.cpu.specs.Machine.{machine_state}
 use Rattle.host.specs.Host.{refusal_of, StepOutcome, step_of}
-use Rattle.valid.specs.declared.Made.{Made}
+use Rattle.valid.specs.Valid.{Made}
 use Rattle.theorems.specs.Withhold.{withheld}
 use Rattle.theorems.specs.Known.{Pushing, marked_at, first, second, third, Pushed, P11, KnownSteps}
 use Rattle.theorems.proofs.Allowed.{latched_allowed, allowed_parts, parts_allowed}

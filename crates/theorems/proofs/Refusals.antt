@@ -9,6 +9,8 @@ use native.Mathlib.Omega.{arith}
 use lib.Dec.{eqb, leb, ltb}
 use lib.ListN.{length, get_or}
 use borrow.Author.Tests.{ne_eqb, ltb-true, ltb-false, lt-ltb, le-ltb}
+use Rattle.std.specs.Prelude as std
+use Rattle.std.specs.Prelude.{Some, None}
 use Rattle.mmu.specs.Translate.{valid}
 use Rattle.pack.specs.Pack.{unpack}
 use Rattle.board.specs.Program.{State, completed}
@@ -25,10 +27,9 @@ use Rattle.host.specs.Host.{refusal_of, run_of, step_of}
 use Rattle.valid.specs.Valid.{unmade, made_valid, make_valid}
 use Rattle.saves.specs.Saves.{Outcome, refusal, pushed, all_passed, entered, vectored, saved}
 use Rattle.deliver.specs.declared.traps.Trap.{Trap}
-use Rattle.deliver.specs.declared.traps.Trap.TheVariants.{Two, Three, Undelivered}
+use Rattle.deliver.specs.declared.traps.Trap.TheVariants.{Two, Three}
 use Rattle.deliver.specs.Deliver.{stopped, trap_of, taken, deliver_of}
-use Rattle.form.specs.declared.Restored.{Restored}
-use Rattle.form.specs.Form.{widths, machine_of, frames_of, write_refusal, written, refused, restored, read_fields, read_form}
+use Rattle.form.specs.Form.{Reading, widths, machine_of, frames_of, write_refusal, written, refused, restored, read_fields, read_form}
 use Rattle.theorems.specs.Refusals.{Test, test, refusal_by, Given, no_cause, here, later, run_tests, deliverable, missing, lost, fatal, deliver_tests, valid_tests, write_tests, read_tests, Demand1}
 use Rattle.theorems.proofs.Works.{run_refusal, step_refusal, run_refused, step_refused}
 
@@ -72,10 +73,10 @@ run_kept m w n h =
 
 -- ── delivery ──
 
-undelivered : Trap → Bool
-undelivered (Two offset a) = false
-undelivered (Three offset a v) = false
-undelivered Undelivered = true
+undelivered : std.Option Trap → Bool
+undelivered (Some (Two offset a)) = false
+undelivered (Some (Three offset a v)) = false
+undelivered None = true
 
 not_delivered : (e : Event) → undelivered (trap_of e) ≡ not (deliverable e)
 unfolding undelivered trap_of stopped deliverable
@@ -119,17 +120,17 @@ module _ (m : Machine) (w : List ℕ) where
   unfolding saved vectored
   saved_kept offset vs = entered_kept (all_passed (pushed m w vs).event) (pushed m w vs).state _ _
 
-  taken_tests : (t : Trap) → (taken m w t).answer.refusal ≡ cond (undelivered t) 8 (cond (fatal m w t) 9 0)
+  taken_tests : (t : std.Option Trap) → (taken m w t).answer.refusal ≡ cond (undelivered t) 8 (cond (fatal m w t) 9 0)
   unfolding taken fatal undelivered
-  taken_tests (Two offset a) = saved_tests offset (a ∷ m.ctl.msr ∷ [])
-  taken_tests (Three offset a v) = saved_tests offset (a ∷ m.ctl.msr ∷ v ∷ [])
-  taken_tests Undelivered = refl
+  taken_tests (Some (Two offset a)) = saved_tests offset (a ∷ m.ctl.msr ∷ [])
+  taken_tests (Some (Three offset a v)) = saved_tests offset (a ∷ m.ctl.msr ∷ v ∷ [])
+  taken_tests None = refl
 
-  taken_kept : (t : Trap) → Kept m w (taken m w t)
+  taken_kept : (t : std.Option Trap) → Kept m w (taken m w t)
   unfolding taken Kept
-  taken_kept (Two offset a) = saved_kept offset (a ∷ m.ctl.msr ∷ [])
-  taken_kept (Three offset a v) = saved_kept offset (a ∷ m.ctl.msr ∷ v ∷ [])
-  taken_kept Undelivered = λ h. (refl, refl)
+  taken_kept (Some (Two offset a)) = saved_kept offset (a ∷ m.ctl.msr ∷ [])
+  taken_kept (Some (Three offset a v)) = saved_kept offset (a ∷ m.ctl.msr ∷ v ∷ [])
+  taken_kept None = λ h. (refl, refl)
 
   choice_tests : (a b : Bool) (o : Outcome) (n : ℕ) → o.answer.refusal ≡ n →
       (cond a (cond b o (refusal 2 m w)) (refusal 1 m w)).answer.refusal ≡ cond (not a) 1 (cond (not b) 2 n)
@@ -198,13 +199,13 @@ write_kept : (m : Machine) (frames : ℕ) (out : List ℕ) → write_refusal m f
 unfolding written
 write_kept m frames out h = rw (ne_eqb _ _ h)
 
-Fresh : Restored → Type 0
+Fresh : Reading → Type 0
 Fresh r = r.refusal ≢ 0 → (r.machine ≡ reset_record) × (r.frames ≡ 1)
 
-abbrev tested : (a b c d e : Bool) → Restored → Restored
+abbrev tested : (a b c d e : Bool) → Reading → Reading
 tested a b c d e r = cond a (refused 3) (cond b (refused 4) (cond c (refused 10) (cond d (refused 2) (cond e (refused 5) r))))
 
-read_cases : (a b c d e : Bool) (r : Restored) → r.refusal ≡ 0 →
+read_cases : (a b c d e : Bool) (r : Reading) → r.refusal ≡ 0 →
     ((tested a b c d e r).refusal ≡ cond a 3 (cond b 4 (cond c 10 (cond d 2 (cond e 5 0))))) × Fresh (tested a b c d e r)
 unfolding refused Fresh
 read_cases true b c d e r h = (refl, λ k. (refl, refl))

@@ -23,8 +23,7 @@ use Rattle.bus.specs.Board.{real}
 use Rattle.cpu.specs.Program.{program}
 use Rattle.cpu.specs.Machine.{machine_state}
 use Rattle.host.specs.Host.{machine_in, refusal_of, Outcome, run_of, StepOutcome, step_of}
-use Rattle.valid.specs.declared.Made.{Made}
-use Rattle.valid.specs.Valid.{made_valid, make_valid}
+use Rattle.valid.specs.Valid.{Made, made_valid, make_valid}
 use Rattle.theorems.specs.Withhold.{withheld, Withheld, Hosted, over_with, further, once_made, on_fault, hosted, Alike, Doesn'tShow, Moment, begun, stepped, resumed, EachCount, End, full, cut, EndsAtMoment, Demand3}
 use Rattle.theorems.proofs.Works.{passed, run_refusal, step_refusal, run_works, step_works, run_marks, step_marks, run_allowed, step_allowed, made, made_machine, run_refused}
 

@@ -16,8 +16,7 @@ use Rattle.bus.specs.Board.{real}
 use Rattle.cpu.specs.Program.{program}
 use Rattle.cpu.specs.Machine.{machine_state}
 use Rattle.host.specs.Host.{machine_in, refusal_of, run_of, step_of}
-use Rattle.valid.specs.declared.Made.{Made}
-use Rattle.valid.specs.Valid.{unmade, made_valid, make_valid}
+use Rattle.valid.specs.Valid.{Made, unmade, made_valid, make_valid}
 use Rattle.theorems.proofs.Allowed.{allowed_parts, parts_allowed}
 use Rattle.theorems.proofs.Lasting.{Lasts, step_lasts, run_lasts}
 

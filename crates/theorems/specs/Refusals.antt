@@ -1,6 +1,7 @@
 -- Demand 1, stated: each public call refuses by document 01's numbers in document 01's order, and a refused call changes nothing.
 -- That a call is total needs no statement here: its promise has no premise, and its definition below is a function of all inputs.
-use Rattle.std.specs.Prelude.{ℕ, ◌+◌, ◌≢◌, ◌↔◌, ◌≡◌, Bool, true, false, cond, not, ◌&&◌, ◌||◌, List, [], ◌∷◌, eqb, leb, ltb, length, get_or}
+use Rattle.std.specs.Prelude as std
+use Rattle.std.specs.Prelude.{Some, None, ℕ, ◌+◌, ◌≢◌, ◌↔◌, ◌≡◌, Bool, true, false, cond, not, ◌&&◌, ◌||◌, List, [], ◌∷◌, eqb, leb, ltb, length, get_or}
 use Rattle.std.proofs.Math.Option.{Option, none, some}
 use Rattle.mmu.specs.Translate.{valid}
 use Rattle.pack.specs.Pack.{unpack}
@@ -16,7 +17,7 @@ use Rattle.host.specs.Host.{run_of, step_of}
 use Rattle.valid.specs.Valid.{make_valid}
 use Rattle.saves.specs.Saves.{pushed, all_passed, vector_at, word_at}
 use Rattle.deliver.specs.declared.traps.Trap.{Trap}
-use Rattle.deliver.specs.declared.traps.Trap.TheVariants.{Two, Three, Undelivered}
+use Rattle.deliver.specs.declared.traps.Trap.TheVariants.{Two, Three}
 use Rattle.deliver.specs.Deliver.{trap_of, deliver_of}
 use Rattle.form.specs.Form.{widths, machine_of, frames_of, write_refusal, written, read_form}
 
@@ -73,10 +74,10 @@ lost m w offset vs =
     missing (word_at (pushed m w vs).state.mem (vector_at m.ctl offset)) ||
     missing (word_at (pushed m w vs).state.mem (vector_at m.ctl offset + 2))
 
-unfoldable pub fatal : Machine → List ℕ → Trap → Bool
-fatal m w (Two offset address) = lost m w offset (address ∷ m.ctl.msr ∷ [])
-fatal m w (Three offset address operand) = lost m w offset (address ∷ m.ctl.msr ∷ operand ∷ [])
-fatal m w Undelivered = false
+unfoldable pub fatal : Machine → List ℕ → std.Option Trap → Bool
+fatal m w (Some (Two offset address)) = lost m w offset (address ∷ m.ctl.msr ∷ [])
+fatal m w (Some (Three offset address operand)) = lost m w offset (address ∷ m.ctl.msr ∷ operand ∷ [])
+fatal m w None = false
 
 abbrev pub deliver_tests : Machine → (w : List ℕ) → Event → List Test
 deliver_tests m w e =

@@ -8,8 +8,7 @@ use Rattle.regs.specs.declared.Machine.{Machine}
 use Rattle.bus.specs.Board.{real}
 use Rattle.cpu.specs.Machine.{machine_state}
 use Rattle.host.specs.Host.{machine_in, Outcome, run_of, step_of}
-use Rattle.valid.specs.declared.Made.{Made}
-use Rattle.valid.specs.Valid.{make_valid}
+use Rattle.valid.specs.Valid.{Made, make_valid}
 
 -- "clear the valid marks of any w user descriptors that had them"
 abbrev pub withheld : List ℕ → Machine → Machine

@@ -1,9 +1,12 @@
--- No two answers meet the promise of the call.
-use Prim.Native.Nat.{ℕ}
-use mathlib.Core.Path.{◌≡◌, sym, ◌∙◌}
+-- No two answers and no two records meet the promise of the call.
+use Rattle.std.specs.Prelude.{◌≡◌, ℕ, Result}
+use Rattle.std.proofs.Common.{sym, ◌∙◌, ap}
 use Rattle.regs.specs.declared.Machine.{Machine}
-use Rattle.valid.specs.declared.Made.{Made}
-use Rattle.valid.specs.Valid.{make_valid}
+use Rattle.legal.specs.declared.refusal.Refusal.{Refusal}
+use Rattle.legal.proofs.Numbers.{once}
+use Rattle.valid.specs.Valid.{Made, made, make_valid}
 
-pub made_once : (m : Machine) (n : ℕ) (r s : Made) → r ≡ make_valid m n → s ≡ make_valid m n → r ≡ s
-made_once m n r s p q = p ∙ sym q
+pub made_once : (m : Machine) (n : ℕ) (r s : Result (Unit {0}) Refusal) (m' n' : Machine) →
+    made r m' ≡ make_valid m n → made s n' ≡ make_valid m n → (r ≡ s) × (m' ≡ n')
+made_once m n r s m' n' p q =
+    (once r s (ap (λ (x : Made). x.refusal) (p ∙ sym q)), ap (λ (x : Made). x.machine) (p ∙ sym q))

@@ -2,57 +2,26 @@
 #![tactic(auto)]
 
 ghost use Rattle.std.specs.Prelude.{◌≡◌};
-ghost use Rattle.valid.specs.Valid.{make_valid, unmade};
+ghost use Rattle.valid.specs.Valid.{make_valid, made};
 
+use legal::refusal::Refusal;
 use regs::Machine;
 
-// 0 or the refusal's number, and the machine.
-#[derive(Clone, Copy)]
-pub struct Made {
-    pub refusal: u8,
-    pub machine: Machine,
-}
-
-fn not_made(refusal: u8, m: Machine) -> Made
-    ensures { result ≡ unmade refusal m }
+// Sets the valid bit of descriptor n. Refused, it changes nothing.
+#[tactic(auto, using(crate::proofs::Descriptor::itself), unfolding(crate::specs::Valid::make_valid))]
+pub fn make_valid(m: &mut Machine, n: u8) -> Result<(), Refusal>
+    ensures { made result m.new ≡ make_valid m.old n }
 {
-    Made {
-        refusal,
-        machine: m,
+    if !legal::allowed(*m) {
+        return Err(Refusal::ReservedBit);
     }
-}
-
-// Sets the valid bit of descriptor n.
-pub fn make_valid(m: Machine, n: u8) -> Made
-    ensures { result ≡ make_valid m n }
-{
-    let allowed = legal::allowed(m);
-    if allowed {
-        let known = n < 32;
-        if known {
-            let regs = m.regs;
-            let ctl = m.ctl;
-            let mut ds = m.ds;
-            let already = mmu::is_valid(&ds, n);
-            if already {
-                not_made(7, m)
-            } else {
-                mmu::make_valid(&mut ds, n);
-                let machine = Machine {
-                    regs,
-                    ctl,
-                    mmu: m.mmu,
-                    ds,
-                };
-                Made {
-                    refusal: 0,
-                    machine,
-                }
-            }
-        } else {
-            not_made(6, m)
-        }
-    } else {
-        not_made(2, m)
+    if n >= 32 {
+        return Err(Refusal::NoDescriptor);
     }
+    let already = mmu::is_valid(&m.ds, n);
+    if already {
+        return Err(Refusal::AlreadyValid);
+    }
+    mmu::make_valid(&mut m.ds, n);
+    Ok(())
 }

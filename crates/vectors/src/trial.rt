@@ -1,4 +1,5 @@
 // A trial of a box: the cells and memory of its run, and what has been seen of it.
+use bus::kinds::Event;
 use cases::cells::Cells;
 use cases::report;
 
@@ -85,10 +86,12 @@ impl Trial {
     }
 
     fn run(&mut self) {
-        let a = host::run(self.cells.machine(), &mut self.memory, self.cells.steps);
-        let next = a.machine;
-        let e = a.event;
-        self.cells.put_answer(a.refusal, next);
+        let mut m = self.cells.machine();
+        let (refusal, e) = match host::run(&mut m, &mut self.memory, self.cells.steps) {
+            Ok(r) => (0, r.event),
+            Err(k) => (k.number(), Event::Completed),
+        };
+        self.cells.put_answer(refusal, m);
         self.cells.put_event(e);
     }
 

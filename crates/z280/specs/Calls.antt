@@ -2,8 +2,7 @@
 use Rattle.std.specs.Prelude.{ℕ, cond, List, eqb, length}
 use Rattle.board.specs.Program as b
 use Rattle.bus.specs.Board.{real}
-use Rattle.form.specs.declared.Restored.{Restored}
-use Rattle.form.specs.Form.{written, read_form}
+use Rattle.form.specs.Form.{Reading, written, read_form}
 use Rattle.events.specs.Events.{event_numbers}
 use Rattle.events.specs.Bytes.{answer_bytes}
 use Rattle.host.specs.Host.{machine_in, step_of, run_of}
@@ -23,7 +22,7 @@ answered refusal s w e = record { refusal = refusal; form = s; memory = w; answe
 abbrev pub went : (frames : ℕ) (s : List ℕ) (t : b.State real) (e : b.Event real) (steps : ℕ) → Answered
 went frames s t e steps = answered 0 (written (machine_in t) frames s) t.mem (answer_bytes (event_numbers e) steps)
 
-unfoldable pub step_read : (a : Restored) (s w e : List ℕ) → Answered
+unfoldable pub step_read : (a : Reading) (s w e : List ℕ) → Answered
 step_read a s w e =
     cond (eqb (lent_refusal a (length w) (length e)) 0)
     (let t = (step_of a.machine w).answer in went a.frames s t.state t.event (completed_by t.event))
@@ -32,7 +31,7 @@ step_read a s w e =
 unfoldable pub step_form : (s w e : List ℕ) → Answered
 step_form s w e = step_read (read_form s) s w e
 
-unfoldable pub run_read : (a : Restored) (s w : List ℕ) (budget : ℕ) (e : List ℕ) → Answered
+unfoldable pub run_read : (a : Reading) (s w : List ℕ) (budget : ℕ) (e : List ℕ) → Answered
 run_read a s w budget e =
     cond (eqb (lent_refusal a (length w) (length e)) 0)
     (let r = (run_of a.machine w budget).ran in went a.frames s r.state r.event r.steps)

@@ -1,11 +1,11 @@
-use Rattle.lent.proofs.Laws.{make_refused, unmade, made_on}
+use Rattle.std.proofs.lemmas.Result.{err_from_is_err_and}
+use Rattle.lent.proofs.Laws.{unmade, made_on}
 use Rattle.lent.proofs.make_valid.Goals as goal
 
-pub returns-then-refused : goal.returns-then-refused
-returns-then-refused c = make_refused _ _ _ c.read_form-a.ensures c.if-refused.true
-
-pub returns-then-unmade : goal.returns-then-unmade
-returns-then-unmade c = unmade _ _ _ c.read_form-a.ensures c.if-refused.false _ c.make_valid-r.ensures c.if-unmade.true
+pub returns-in_err-make_valid : goal.returns-in_err-make_valid
+returns-in_err-make_valid c =
+    let p = err_from_is_err_and c.from_residual-in_err-make_valid.result c.from_residual-in_err-make_valid.ensures.1 in
+    rw (p.1, p.2) (unmade _ _ _ c.in_ok-a.ensures _ _ c.in_err-make_valid.ensures)
 
 pub returns : goal.returns
-returns c = made_on _ _ _ c.read_form-a.ensures c.if-refused.false _ c.make_valid-r.ensures c.if-unmade.false _ _ c.write_form.ensures
+returns c = made_on _ _ _ c.in_ok-a.ensures _ c.in_ok-make_valid.ensures _ c.write_form.ensures.1

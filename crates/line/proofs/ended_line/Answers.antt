@@ -1,15 +1,15 @@
 -- Seven pieces.
 use Rattle.line.specs.Line.{decimal, four_hex, stop_word, steps_word, pc_word, newline, ended_line}
-use Rattle.line.proofs.Text.{none, more}
+use Rattle.line.proofs.Text.{begun, more}
 use Rattle.line.proofs.ended_line.Goals as goal
 
 pub returns : goal.returns
 unfolding ended_line
 returns c =
-    let a = more (none _) stop_word _ _ c.put_bytes-a.ensures in
-    let e = more a (decimal c.args.e) _ _ c.put_decimal-b.ensures.value in
-    let f = more e steps_word _ _ c.put_bytes-c.ensures in
-    let g = more f (decimal c.args.n) _ _ c.put_decimal-d.ensures.value in
-    let h = more g pc_word _ _ c.put_bytes-f.ensures in
-    let k = more h (four_hex c.args.pc) _ _ (rw c.four_hex-h.ensures at c.put_bytes-g.ensures) in
-    more k newline _ _ c.put_bytes-z.ensures
+    let l = more (begun c.new-l.ensures.n c.new-l.ensures.text) stop_word c.put.ensures.n c.put.ensures.text in
+    let e = more l (decimal c.args.e.event) c.put_decimal.ensures.n c.put_decimal.ensures.text in
+    let f = more e steps_word c.put-2.ensures.n c.put-2.ensures.text in
+    let g = more f (decimal c.args.e.steps) c.put_decimal-2.ensures.n c.put_decimal-2.ensures.text in
+    let h = more g pc_word c.put-3.ensures.n c.put-3.ensures.text in
+    let k = more h (four_hex c.args.e.pc) (rw c.four_hex.ensures at c.put-4.ensures.n) (rw c.four_hex.ensures at c.put-4.ensures.text) in
+    more k newline c.put-5.ensures.n c.put-5.ensures.text

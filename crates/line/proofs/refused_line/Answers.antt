@@ -1,11 +1,11 @@
 -- Three pieces.
 use Rattle.line.specs.Line.{decimal, refused_word, newline, refused_line}
-use Rattle.line.proofs.Text.{none, more}
+use Rattle.line.proofs.Text.{begun, more}
 use Rattle.line.proofs.refused_line.Goals as goal
 
 pub returns : goal.returns
 unfolding refused_line
 returns c =
-    let a = more (none _) refused_word _ _ c.put_bytes-a.ensures in
-    let e = more a (decimal c.args.k) _ _ c.put_decimal-b.ensures.value in
-    more e newline _ _ c.put_bytes-n.ensures
+    let l = more (begun c.new-l.ensures.n c.new-l.ensures.text) refused_word c.put.ensures.n c.put.ensures.text in
+    let d = more l (decimal c.args.k) (rw c.from.ensures at c.put_decimal.ensures.n) (rw c.from.ensures at c.put_decimal.ensures.text) in
+    more d newline c.put-2.ensures.n c.put-2.ensures.text

@@ -1,12 +1,13 @@
--- `show`: the form's refusals first, then what the memory gives.
-use Rattle.show.proofs.Laws.{short_3, form_refused, form_read}
+-- The form's refusals come first, then what the memory gives.
+use Rattle.show.proofs.Laws.{not_exact, run_never, run_ended}
 use Rattle.show.proofs.answer.show.Goals as goal
 
-pub returns-then-input-lt-FORM : goal.returns-then-input-lt-FORM
-returns-then-input-lt-FORM c = short_3 _ c.if-input-lt-FORM.true
+pub returns-then-w-a : goal.returns-then-w-a
+returns-then-w-a c = not_exact _ c.if-input-lt-FORM.false _ c.in_ok-a.ensures c.if-w-a.true
 
-pub returns-then-refused : goal.returns-then-refused
-returns-then-refused c = form_refused _ _ c.read_form-a.ensures c.if-refused.true
+pub returns-in_err-r : goal.returns-in_err-r
+returns-in_err-r c = absurd (run_never _ c.if-input-lt-FORM.false _ c.in_ok-a.ensures c.if-w-a.false _ _ _ c.in_err-r.ensures)
 
 pub returns : goal.returns
-returns c = form_read _ _ c.read_form-a.ensures c.if-refused.false c.if-input-lt-FORM.false _ _ c.work.ensures
+returns c =
+    run_ended _ c.if-input-lt-FORM.false _ c.in_ok-a.ensures c.if-w-a.false _ _ _ _ c.in_ok-r.ensures c.from-n.ensures

@@ -1,0 +1,56 @@
+// Why a call did nothing: document 01's ten refusals.
+ghost use Rattle.std.specs.Prelude.{◌≡◌};
+ghost use Rattle.legal.specs.Refusal.{number_of, refused_by};
+
+use std::error::Error;
+use std::fmt;
+
+#[derive(Clone, Copy, PartialEq, Eq, Debug)]
+pub enum Refusal {
+    // Memory isn't the whole frames that it has to be, or a frame count isn't 1 to 16.
+    MemoryLength = 1,
+    // A bit that may not be set is set.
+    ReservedBit = 2,
+    // A stored form isn't 101 bytes, an output buffer is under 101, an answer or event isn't 12.
+    BufferLength = 3,
+    // The stored version isn't 1.
+    Version = 4,
+    // A padding bit is set.
+    Padding = 5,
+    // The descriptor's number is above 31.
+    NoDescriptor = 6,
+    // The descriptor is already valid.
+    AlreadyValid = 7,
+    // The event can't be delivered.
+    Undeliverable = 8,
+    // A push or vector read of a delivery violates or lacks memory.
+    Fatal = 9,
+    // The stored frame count isn't 1 to 16.
+    FrameCount = 10,
+}
+
+impl Refusal {
+    pub fn number(self) -> u8
+        ensures { result ≡ number_of self }
+    {
+        self as u8
+    }
+}
+
+impl fmt::Display for Refusal {
+    fn fmt<W: fmt::Write>(&self, f: &mut fmt::Formatter<W>) -> fmt::Result {
+        write!(f, "refused {}", self.number())
+    }
+}
+
+impl Error for Refusal {}
+
+// The number that an answer is refused by; 0 is no refusal.
+pub fn refused_by(r: Result<(), Refusal>) -> u8
+    ensures { result ≡ refused_by r }
+{
+    match r {
+        Ok(()) => 0,
+        Err(k) => k.number(),
+    }
+}
