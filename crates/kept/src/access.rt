@@ -6,7 +6,7 @@ ghost use Rattle.bus.specs.Write.{Wrote};
 ghost use Rattle.kept.specs.Kept.{Right, Inside};
 ghost use Rattle.kept.specs.declared.access.Found.TheVariants.{Is};
 
-// What was read, or that the page isn't kept. A payload of 8 bytes, as in mmu's Place.
+// What was read, or that the page isn't kept.
 #[derive(Clone, Copy)]
 pub enum Found {
     Is(u64),
