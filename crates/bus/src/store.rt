@@ -49,6 +49,7 @@ pub fn room_for(
     if inside { Ok(p) } else { Err(Fault::Lacks(p)) }
 }
 
+// One byte and two stay two functions: a loop over bytes would need a buffer for the places found before the first is stored.
 #[tactic(auto, unfolding(crate::specs::Write::kept, crate::specs::Leave::denial, crate::specs::Access::room_for, board::specs::Program::after, board::specs::Program::writes, board::specs::Program::write_to, board::specs::Program::touch))]
 fn put_one(
     mode: Mode,

@@ -52,6 +52,7 @@ fn entry(mode: Mode, ds: &[u16; 32], size: usize, k: u8) -> Option<u32>
     based(mode, ds, size, program, false, a)
 }
 
+// An entry 1 begins no page: nothing is kept there.
 pub fn fill(mode: Mode, ds: &[u16; 32], size: usize, kept: &mut [u32; 48])
     ensures right { Right kept.new mode.user mode.control ds.now }
     ensures inside { Inside kept.new size }
