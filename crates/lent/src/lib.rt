@@ -18,7 +18,8 @@ use legal::refusal::Refusal;
 pub fn reset(form: &mut [u8], frames: u8) -> Result<(), Refusal>
     ensures { formed (refused_by result) form.new ≡ reset_form form.old frames }
 {
-    if form.len() != LENGTH {
+    let fits = form.len() == LENGTH;
+    if !fits {
         return Err(Refusal::BufferLength);
     }
     write_form(legal::reset(), frames as u16, form)

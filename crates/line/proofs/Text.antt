@@ -1,12 +1,11 @@
--- A text over the first bytes of a buffer, piece by piece; a number's digits.
-use Prim.Native.Nat.{ℕ, ◌+◌, ◌-◌, ◌≤◌}
-use mathlib.Core.Path.{◌≡◌, refl, sym, ◌∙◌, ap}
+-- A text over the first bytes of a buffer, piece by piece.
+use Prim.Native.Nat.{ℕ, ◌+◌}
+use mathlib.Core.Path.{◌≡◌, refl, sym, ◌∙◌}
 use mathlib.Core.List.{List, [], ◌++◌, append_assoc}
-use native.Mathlib.Omega.{arith}
-use lib.ListN.{length, take, drop, replicate, length-append, length-drop}
-use lib.Seq.{take_all, take_at, drop-append-add, drop-drop}
+use lib.ListN.{length, drop, replicate, length-append}
+use lib.Seq.{take_at, drop-append-add, drop-drop}
 use Rattle.pack.specs.Pack.{pasted}
-use Rattle.line.specs.Line.{five_digits, zeros_before, decimal, Over}
+use Rattle.line.specs.Line.{Over}
 
 pub begun : {old : List ℕ} {n : ℕ} → n ≡ 0 → old ≡ replicate 32 0 → Over [] (replicate 32 0) n old
 begun {old} {n} e h = record { long = e; spelt = h }
@@ -28,11 +27,3 @@ more {t} {old} {new} {last} {at} {r} o s e h =
             append_assoc t s (drop (length t + length s) old),
           );
     }
-
-pub digits : (v z : ℕ) (d : List ℕ) → d ≡ five_digits v → z ≡ zeros_before v → take (5 - z) (drop z d) ≡ decimal v
-unfolding decimal
-digits v z d e h = rw (e, ← h) (take_all (5 - z) (drop z (five_digits v)) (rw length-drop (omega arith)))
-
-pub few : (v : ℕ) → length (decimal v) ≤ 5
-unfolding decimal
-few v = rw length-drop (omega arith)

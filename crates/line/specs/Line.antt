@@ -1,5 +1,5 @@
 -- The line that is printed: words and numbers as bytes of ASCII.
-use Rattle.std.specs.Prelude.{ℕ, ◌+◌, ◌/◌, ◌%◌, ◌≡◌, cond, List, [], ◌∷◌, ◌++◌, ltb, length, drop, replicate, Result, Ok, Err}
+use Rattle.std.specs.Prelude.{ℕ, ◌+◌, ◌/◌, ◌%◌, ◌≡◌, cond, List, [], ◌∷◌, ◌++◌, ltb, length, drop, replicate, decimal, Result, Ok, Err}
 use Rattle.legal.specs.declared.refusal.Refusal.{Refusal}
 use Rattle.legal.specs.Refusal.{number_of}
 use Rattle.line.specs.declared.buffer.Line.{Line}
@@ -20,17 +20,6 @@ glyph d = cond (ltb d 10) (48 + d) (55 + d)
 
 abbrev pub four_hex : ℕ → List ℕ
 four_hex v = glyph (v / 4096 % 16) ∷ glyph (v / 256 % 16) ∷ glyph (v / 16 % 16) ∷ glyph (v % 16) ∷ []
-
-abbrev pub five_digits : ℕ → List ℕ
-five_digits v =
-    (48 + v / 10000 % 10) ∷ (48 + v / 1000 % 10) ∷ (48 + v / 100 % 10) ∷ (48 + v / 10 % 10) ∷ (48 + v % 10) ∷ []
-
--- the zeros in front of a number of at most five digits; 0 itself keeps one digit
-unfoldable pub zeros_before : ℕ → ℕ
-zeros_before v = cond (ltb v 10) 4 (cond (ltb v 100) 3 (cond (ltb v 1000) 2 (cond (ltb v 10000) 1 0)))
-
-unfoldable pub decimal : ℕ → List ℕ
-decimal v = drop (zeros_before v) (five_digits v)
 
 -- "refused ", "stop ", " steps ", " pc ", and a newline
 abbrev pub refused_word : List ℕ

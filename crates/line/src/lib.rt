@@ -3,11 +3,12 @@
 
 pub mod buffer;
 
-ghost use Rattle.std.specs.Prelude.{◌≡◌, ◌+◌, ◌%◌, ◌≤◌, length};
+ghost use Rattle.std.specs.Prelude.{◌≡◌, ◌+◌, ◌%◌, ◌≤◌, length, decimal};
 ghost use Rattle.pack.specs.Pack.{pasted};
-ghost use Rattle.line.specs.Line.{glyph as digit_glyph, four_hex, five_digits, zeros_before, decimal, Spells, refused_line, ended_line, shows, line_of};
+ghost use Rattle.line.specs.Line.{glyph as digit_glyph, four_hex, Spells, refused_line, ended_line, shows, line_of};
 
 use crate::buffer::Line;
+use itoa::Buffer;
 use legal::refusal::Refusal;
 
 // How a run ended.
@@ -27,7 +28,7 @@ fn glyph(d: u16) -> u8
     if k < 10 { 48 + k } else { 55 + k }
 }
 
-// std writes a number only to what allocates.
+// No library writes a hexadecimal number but to what allocates.
 fn four_hex(v: u16) -> [u8; 4]
     ensures { result ≡ four_hex v }
 {
@@ -38,46 +39,14 @@ fn four_hex(v: u16) -> [u8; 4]
     [a, b, c, d]
 }
 
-fn digit(v: u16) -> u8
-    ensures { result ≡ 48 + v % 10 }
-{
-    48 + (v % 10) as u8
-}
-
-fn five_digits(v: u16) -> [u8; 5]
-    ensures { result ≡ five_digits v }
-{
-    let a = digit(v / 10000);
-    let b = digit(v / 1000);
-    let c = digit(v / 100);
-    let d = digit(v / 10);
-    let e = digit(v);
-    [a, b, c, d, e]
-}
-
-#[tactic(auto, unfolding(crate::specs::Line::zeros_before))]
-fn zeros_before(v: u16) -> usize
-    ensures value { result ≡ zeros_before v }
-    ensures upper_bound { result ≤ 4 }
-{
-    match v {
-        0..=9 => 4,
-        10..=99 => 3,
-        100..=999 => 2,
-        1000..=9999 => 1,
-        _ => 0,
-    }
-}
-
 fn put_decimal(l: &mut Line, v: u16)
     requires { l.old.n + 5 ≤ 32 }
     ensures n { l.new.n ≡ l.old.n + length (decimal v) }
     ensures text { l.new.text ≡ pasted l.old.text l.old.n (decimal v) }
     ensures upper_bound { l.new.n ≤ l.old.n + 5 }
 {
-    let d = five_digits(v);
-    let z = zeros_before(v);
-    l.put(&d[z..]);
+    let mut buffer = Buffer::new();
+    l.put(buffer.format(v).as_bytes());
 }
 
 fn refused_line(k: u8) -> Line

@@ -18,7 +18,7 @@ use Rattle.regs.specs.declared.Machine.{Machine}
 use Rattle.form.specs.declared.Restored.{Restored}
 use Rattle.form.specs.declared.Unread.{Unread}
 use Rattle.form.specs.Form.{Reading, reading, refused, read_form}
-use Rattle.form.proofs.Accepted.{Accepted, accepted, whole}
+use Rattle.form.proofs.Accepted.{accepted, whole}
 use Rattle.form.proofs.Tests.{length_3}
 use Rattle.host.specs.declared.Ran.{Ran}
 use Rattle.host.specs.Host as host

@@ -12,11 +12,11 @@ use lib.ListN.{length, take, drop, length-drop}
 use lib.Seq.{take_all, take-take, length-take-le}
 use Rattle.regs.specs.declared.Machine.{Machine}
 use Rattle.form.specs.Form.{Reading, read_form}
-use Rattle.form.proofs.Accepted.{Accepted, accepted, whole}
+use Rattle.form.proofs.Accepted.{Accepted, accepted}
 use Rattle.std.specs.Prelude.{Result, Ok, Err}
 use Rattle.legal.specs.declared.refusal.Refusal.{Refusal}
 use Rattle.legal.proofs.Numbers.{numbered, numbered_back}
-use Rattle.host.specs.Host.{refusal_of, run_of}
+use Rattle.host.specs.Host.{run_of}
 use Rattle.line.specs.declared.End.{End}
 use Rattle.line.specs.declared.buffer.Line.{Line}
 use Rattle.line.specs.Line.{Shown, Refused, Ended, shows, Spells}

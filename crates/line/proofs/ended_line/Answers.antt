@@ -1,5 +1,6 @@
 -- Seven pieces.
-use Rattle.line.specs.Line.{decimal, four_hex, stop_word, steps_word, pc_word, newline, ended_line}
+use Rattle.std.specs.Prelude.{decimal}
+use Rattle.line.specs.Line.{four_hex, stop_word, steps_word, pc_word, newline, ended_line}
 use Rattle.line.proofs.Text.{begun, more}
 use Rattle.line.proofs.ended_line.Goals as goal
 

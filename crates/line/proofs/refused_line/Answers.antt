@@ -1,5 +1,6 @@
 -- Three pieces.
-use Rattle.line.specs.Line.{decimal, refused_word, newline, refused_line}
+use Rattle.std.specs.Prelude.{decimal}
+use Rattle.line.specs.Line.{refused_word, newline, refused_line}
 use Rattle.line.proofs.Text.{begun, more}
 use Rattle.line.proofs.refused_line.Goals as goal
 
