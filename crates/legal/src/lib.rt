@@ -28,6 +28,7 @@ pub fn allowed(m: Machine) -> bool
     allowed_control(m.ctl) & (m.mmu & 0xcc1f == m.mmu)
 }
 
+// Written out: what a derived `default` promises, field by field and by index, did not close as this equation.
 pub fn reset() -> Machine
     ensures { result ≡ reset_record }
 {
