@@ -23,16 +23,16 @@ impl Word {
     };
 }
 
+#[tactic(auto, unfolding(crate::specs::Words::marked_word, crate::specs::Words::stored_word))]
 fn push(control: u16, ds: &mut [u16; 32], w: &mut [u8], x: Word)
     requires low_in_bounds { x.low < length w.old }
     requires high_in_bounds { x.high < length w.old }
     ensures ds_after { ds.new ≡ marking control x ds.old }
     ensures w_after { w.new ≡ storing x w.old }
 {
-    let i = x.low as usize;
-    let j = x.high as usize;
-    w[i] = (x.value % 256) as u8;
-    w[j] = (x.value / 256) as u8;
+    let [low, high] = x.value.to_le_bytes();
+    w[x.low as usize] = low;
+    w[x.high as usize] = high;
     let mode = Mode::of(control, false);
     mode.mark(ds, false, x.at);
     mode.mark(ds, false, next_of(x.at));
