@@ -4,10 +4,9 @@ ghost use Rattle.line.specs.Line.{shows};
 ghost use Rattle.show.specs.Image.{outcome, shown_of};
 
 use events::Numbered;
+use form::LENGTH;
 use legal::refusal::Refusal;
 use line::End;
-
-const FORM: usize = 101;
 
 const STEPS: u16 = 1000;
 
@@ -16,11 +15,11 @@ const STEPS: u16 = 1000;
 pub fn show(input: &mut [u8]) -> Result<End, Refusal>
     ensures { outcome (shows result) input.new ≡ shown_of input.old }
 {
-    if input.len() < FORM {
+    if input.len() < LENGTH {
         return Err(Refusal::BufferLength);
     }
-    let mut a = form::read_form(&input[..FORM])?;
-    let w = &mut input[FORM..];
+    let mut a = form::read_form(&input[..LENGTH])?;
+    let w = &mut input[LENGTH..];
     if w.len() != a.frames as usize * 4096 {
         return Err(Refusal::MemoryLength);
     }
