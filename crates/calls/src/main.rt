@@ -7,20 +7,18 @@ use cases::cells::Cells;
 use cases::{calls, script};
 
 fn step(x: &mut Cells, w: &mut [u8]) {
-    let mut m = x.machine();
-    let (refusal, e) = match host::step(&mut m, w) {
-        Ok(e) => (0, e),
-        Err(k) => (k.number(), Event::Completed),
+    let (refusal, m, e) = match host::step(x.machine(), w) {
+        Ok(r) => (0, r.machine, r.event),
+        Err(k) => (k.refusal.number(), k.machine, Event::Completed),
     };
     x.put_answer(refusal, m);
     x.put_event(e);
 }
 
 fn run(x: &mut Cells, w: &mut [u8]) {
-    let mut m = x.machine();
-    let (refusal, e, steps) = match host::run(&mut m, w, x.steps) {
-        Ok(r) => (0, r.event, r.steps),
-        Err(k) => (k.number(), Event::Completed, 0),
+    let (refusal, m, e, steps) = match host::run(x.machine(), w, x.steps) {
+        Ok(r) => (0, r.machine, r.event, r.steps),
+        Err(k) => (k.refusal.number(), k.machine, Event::Completed, 0),
     };
     x.put_answer(refusal, m);
     x.put_event(e);

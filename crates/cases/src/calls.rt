@@ -1,15 +1,21 @@
 // The calls that run no instruction, over cells.
 use crate::cells::Cells;
-use legal::refusal::refused_by;
+use legal::refusal::Refused;
+use regs::Machine;
+
+fn put(x: &mut Cells, r: Result<Machine, Refused>) {
+    match r {
+        Ok(m) => x.put_answer(0, m),
+        Err(k) => x.put_answer(k.refusal.number(), k.machine),
+    }
+}
 
 pub fn deliver(x: &mut Cells, w: &mut [u8]) {
-    let mut m = x.machine();
-    let r = deliver::deliver(&mut m, w, x.event());
-    x.put_answer(refused_by(r), m);
+    let r = deliver::deliver(x.machine(), w, x.event());
+    put(x, r);
 }
 
 pub fn make_valid(x: &mut Cells) {
-    let mut m = x.machine();
-    let r = valid::make_valid(&mut m, (x.n % 256) as u8);
-    x.put_answer(refused_by(r), m);
+    let r = valid::make_valid(x.machine(), (x.n % 256) as u8);
+    put(x, r);
 }

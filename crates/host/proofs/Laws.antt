@@ -35,23 +35,23 @@ module _ {B : b.Board} (prog : n.Program B) where
   run_one s = went (n.step prog s).state (n.step prog s).event
 
 module _ (m : Machine) (w : List ℕ) where
-  pub refused_run : (budget : ℕ) (k : Refusal) → number_of k ≡ refusal_of m (length w) → ran (Err k) m w ≡ run_of m w budget
+  pub refused_run : (budget : ℕ) (k : Refusal) → number_of k ≡ refusal_of m (length w) → ran (Err (record { refusal = k; machine = m })) w ≡ run_of m w budget
   unfolding run_of
   refused_run budget k e = rw (← e, not_0 k)
 
   pub ran_on : (budget : ℕ) (a : code.Ran) (new : List ℕ) → 0 ≡ refusal_of m (length w) →
       ran_of a new ≡ n.run program budget (machine_state m w) →
-      ran (Ok (record { event = a.event; steps = a.steps })) a.machine new ≡ run_of m w budget
+      ran (Ok a) new ≡ run_of m w budget
   unfolding run_of
   ran_on budget a new e p = rw (← e, ← p)
 
-  pub refused_step : (k : Refusal) → number_of k ≡ refusal_of m (length w) → stepped (Err k) m w ≡ step_of m w
+  pub refused_step : (k : Refusal) → number_of k ≡ refusal_of m (length w) → stepped (Err (record { refusal = k; machine = m })) w ≡ step_of m w
   unfolding step_of
   refused_step k e = rw (← e, not_0 k)
 
   pub step_on : (a : code.Ran) (new : List ℕ) → 0 ≡ refusal_of m (length w) →
       ran_of a new ≡ n.run program 1 (machine_state m w) →
-      stepped (Ok a.event) a.machine new ≡ step_of m w
+      stepped (Ok (record { machine = a.machine; event = a.event })) new ≡ step_of m w
   unfolding step_of
   step_on a new e p =
       rw (← e, ← run_one program (machine_state m w)) (ap (λ (x : n.Ran real). record { refusal = 0; answer = uncounted program x }) p)

@@ -4,14 +4,14 @@ use Rattle.board.specs.Program as b
 use Rattle.board.specs.Run as n
 use Rattle.regs.specs.declared.Machine.{Machine}
 use Rattle.legal.specs.Legal.{whole_frames, allowed_bits}
-use Rattle.legal.specs.declared.refusal.Refusal.{Refusal}
+use Rattle.legal.specs.declared.refusal.Refused.{Refused}
 use Rattle.legal.specs.Refusal.{number_of}
 use Rattle.bus.specs.Board.{real}
 use Rattle.bus.specs.Leave.{event_of}
 use Rattle.cpu.specs.Program.{program}
 use Rattle.cpu.specs.Machine.{machine_state}
-use Rattle.bus.specs.declared.kinds.Event.{Event}
-use Rattle.host.specs.declared.Ran.{Ran}
+use Rattle.host.specs.declared.Stepped.{Stepped}
+use Rattle.steps.specs.declared.Ran.{Ran}
 
 -- the record among what a call leaves
 abbrev pub machine_in : b.State real → Machine
@@ -26,11 +26,11 @@ pub record Outcome : Type 0 where
   pub refusal : ℕ
   pub ran : n.Ran real
 
--- .. of a call that left the record m; refused, event 0 and no steps
-abbrev pub ran : Result Ran Refusal → Machine → (w : List ℕ) → Outcome
-ran (Ok r) m w =
-    record { refusal = 0; ran = record { state = machine_state m w; event = event_of r.event; steps = r.steps } }
-ran (Err k) m w = record { refusal = number_of k; ran = n.ended (machine_state m w) b.completed }
+-- refused, event 0 and no steps
+abbrev pub ran : Result Ran Refused → (w : List ℕ) → Outcome
+ran (Ok r) w =
+    record { refusal = 0; ran = record { state = machine_state r.machine w; event = event_of r.event; steps = r.steps } }
+ran (Err x) w = record { refusal = number_of x.refusal; ran = n.ended (machine_state x.machine w) b.completed }
 
 unfoldable pub run_of : Machine → (w : List ℕ) (budget : ℕ) → Outcome
 run_of m w budget =
@@ -43,9 +43,11 @@ pub record StepOutcome : Type 0 where
   pub refusal : ℕ
   pub answer : b.Answer real
 
-abbrev pub stepped : Result Event Refusal → Machine → (w : List ℕ) → StepOutcome
-stepped (Ok e) m w = record { refusal = 0; answer = record { state = machine_state m w; event = event_of e } }
-stepped (Err k) m w = record { refusal = number_of k; answer = record { state = machine_state m w; event = b.completed } }
+abbrev pub stepped : Result Stepped Refused → (w : List ℕ) → StepOutcome
+stepped (Ok r) w =
+    record { refusal = 0; answer = record { state = machine_state r.machine w; event = event_of r.event } }
+stepped (Err x) w =
+    record { refusal = number_of x.refusal; answer = record { state = machine_state x.machine w; event = b.completed } }
 
 unfoldable pub step_of : Machine → (w : List ℕ) → StepOutcome
 step_of m w =

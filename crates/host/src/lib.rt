@@ -6,15 +6,15 @@ ghost use Rattle.legal.specs.Refusal.{refused_by};
 ghost use Rattle.host.specs.Host.{refusal_of, stepped, step_of, ran, run_of};
 
 use bus::kinds::Event;
-use legal::refusal::Refusal;
+use legal::refusal::{Refusal, Refused};
 use regs::Machine;
-use steps::run_steps;
+use steps::{Ran, run_steps};
 
-// A run's answer: the event that ended it, and the steps that completed.
+// A step's answer: the machine, the event.
 #[derive(Clone, Copy)]
-pub struct Ran {
+pub struct Stepped {
+    pub machine: Machine,
     pub event: Event,
-    pub steps: u16,
 }
 
 #[tactic(auto, unfolding(crate::specs::Host::refusal_of))]
@@ -30,27 +30,30 @@ fn admit(m: Machine, n: usize) -> Result<(), Refusal>
     Ok(())
 }
 
-// Works one step, and answers its event. Refused, it changes neither record nor memory.
+// Works one step. Refused, it changes no byte and hands the record back.
 #[tactic(auto, using(crate::proofs::Laws::refused_step))]
-pub fn step(m: &mut Machine, w: &mut [u8]) -> Result<Event, Refusal>
-    ensures { stepped result m.new w.new ≡ step_of m.old w.old }
+pub fn step(m: Machine, w: &mut [u8]) -> Result<Stepped, Refused>
+    ensures { stepped result w.new ≡ step_of m w.old }
 {
-    admit(*m, w.len())?;
-    let a = run_steps(*m, w, 1);
-    *m = a.machine;
-    Ok(a.event)
+    match admit(m, w.len()) {
+        Err(k) => Err(k.beside(m)),
+        Ok(()) => {
+            let a = run_steps(m, w, 1);
+            Ok(Stepped {
+                machine: a.machine,
+                event: a.event,
+            })
+        }
+    }
 }
 
-// Works up to `budget` steps, and stops at the first event other than 0. Refused, it changes neither record nor memory.
+// Works up to `budget` steps, and stops at the first event other than 0. Refused, it changes no byte and hands the record back.
 #[tactic(auto, using(crate::proofs::Laws::refused_run))]
-pub fn run(m: &mut Machine, w: &mut [u8], budget: u16) -> Result<Ran, Refusal>
-    ensures { ran result m.new w.new ≡ run_of m.old w.old budget }
+pub fn run(m: Machine, w: &mut [u8], budget: u16) -> Result<Ran, Refused>
+    ensures { ran result w.new ≡ run_of m w.old budget }
 {
-    admit(*m, w.len())?;
-    let a = run_steps(*m, w, budget);
-    *m = a.machine;
-    Ok(Ran {
-        event: a.event,
-        steps: a.steps,
-    })
+    match admit(m, w.len()) {
+        Err(k) => Err(k.beside(m)),
+        Ok(()) => Ok(run_steps(m, w, budget)),
+    }
 }

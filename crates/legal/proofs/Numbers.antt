@@ -1,6 +1,8 @@
 -- No refusal has number 0, and no two have one number.
 use Rattle.std.specs.Prelude.{◌≡◌, ℕ, eqb, cond, false, refl, Result, Ok, Err}
 use Rattle.std.proofs.Common.{sym, ◌∙◌, ap}
+use Rattle.regs.specs.declared.Machine.{Machine}
+use Rattle.legal.specs.declared.refusal.Refused.{Refused}
 use Rattle.legal.specs.declared.refusal.Refusal.{Refusal}
 use Rattle.legal.specs.declared.refusal.Refusal.TheVariants.{MemoryLength, ReservedBit, BufferLength, Version, Padding, NoDescriptor, AlreadyValid, Undeliverable, Fatal, FrameCount}
 use Rattle.legal.specs.Refusal.{number_of, refused_by}
@@ -54,3 +56,10 @@ by_number (Err k) = refused_back k tt
 -- answers that carry nothing else are one where they are refused by one number
 pub once : (r s : Result (Unit {0}) Refusal) → refused_by r ≡ refused_by s → r ≡ s
 once r s e = sym (by_number r) ∙ ap (λ (n : ℕ). answer_in n tt) e ∙ by_number s
+
+-- an answer of a call on a record, by its number and the record
+abbrev pub recorded : {A : Type 0} → ℕ → Machine → A → Result A Refused
+recorded n m a = cond (eqb n 0) (Ok a) (Err (record { refusal = numbered n; machine = m }))
+
+pub record_back : {A : Type 0} (x : Refused) (a : A) → recorded (number_of x.refusal) x.machine a ≡ Err x
+record_back x a = rw (not_0 x.refusal, numbered_back x.refusal)

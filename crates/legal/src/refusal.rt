@@ -2,6 +2,7 @@
 ghost use Rattle.std.specs.Prelude.{◌≡◌};
 ghost use Rattle.legal.specs.Refusal.{number_of, refused_by};
 
+use regs::Machine;
 use std::error::Error;
 use std::fmt;
 
@@ -35,6 +36,16 @@ impl Refusal {
     {
         self as u8
     }
+
+    // Of a call that got this record.
+    pub fn beside(self, machine: Machine) -> Refused
+        ensures { result ≡ record { refusal = self; machine = machine } }
+    {
+        Refused {
+            refusal: self,
+            machine,
+        }
+    }
 }
 
 impl fmt::Display for Refusal {
@@ -44,6 +55,21 @@ impl fmt::Display for Refusal {
 }
 
 impl Error for Refusal {}
+
+// A call on a record that did nothing: why, and the record as the call got it.
+#[derive(Clone, Copy)]
+pub struct Refused {
+    pub refusal: Refusal,
+    pub machine: Machine,
+}
+
+impl From<Refused> for Refusal {
+    ghost from_gives = { λ x k. k ≡ x.refusal };
+
+    fn from(x: Refused) -> Refusal {
+        x.refusal
+    }
+}
 
 // The number that an answer is refused by; 0 is no refusal.
 pub fn refused_by(r: Result<(), Refusal>) -> u8

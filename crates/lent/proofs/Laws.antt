@@ -12,6 +12,7 @@ use Rattle.regs.specs.declared.Machine.{Machine}
 use Rattle.std.specs.Prelude.{Ok, Err}
 use Rattle.legal.specs.Legal.{allowed_bits, reset_record}
 use Rattle.legal.specs.declared.refusal.Refusal.{Refusal}
+use Rattle.legal.specs.declared.refusal.Refused.{Refused}
 use Rattle.legal.specs.Refusal.{number_of}
 use Rattle.legal.proofs.Numbers.{not_0}
 use Rattle.pack.specs.Pack.{pack}
@@ -59,11 +60,11 @@ module _ (s w e : List ℕ) where
 
   module _ (a : Restored) (q : 0 ≡ lent_refusal (read_form s) (length w) (length e)) (p : reading (Ok a) ≡ read_form s)
       (v : Event) (y : v ≡ event_in e) where
-    pub undelivered : (k : Refusal) (t : Machine) (w' : List ℕ) → outcome (Err k) t w' ≡ deliver_of a.machine w v → moved (number_of k) s w' ≡ deliver_form s w e
+    pub undelivered : (x : Refused) (w' : List ℕ) → outcome (Err x) w' ≡ deliver_of a.machine w v → moved (number_of x.refusal) s w' ≡ deliver_form s w e
     unfolding deliver_form deliver_read delivered_back
-    undelivered k t w' x = rw (← q, ← p, ← y, ← x, not_0 k)
+    undelivered x w' f = rw (← q, ← p, ← y, ← f, not_0 x.refusal)
 
-    pub delivered_on : (t : Machine) (w' : List ℕ) → outcome (Ok tt) t w' ≡ deliver_of a.machine w v →
+    pub delivered_on : (t : Machine) (w' : List ℕ) → outcome (Ok t) w' ≡ deliver_of a.machine w v →
         (s' : List ℕ) → s' ≡ written t a.frames s → moved 0 s' w' ≡ deliver_form s w e
     unfolding deliver_form deliver_read delivered_back
     delivered_on t w' x s' f = rw (← q, ← p, ← y, ← x, f)
@@ -76,11 +77,11 @@ module _ (s : List ℕ) (i : ℕ) where
   make_refused u p = rw (← p, not_0 u.refusal)
 
   module _ (a : Restored) (p : reading (Ok a) ≡ read_form s) where
-    pub unmade : (k : Refusal) (t : Machine) → made (Err k) t ≡ make_valid a.machine i → formed (number_of k) s ≡ make_form s i
+    pub unmade : (x : Refused) → made (Err x) ≡ make_valid a.machine i → formed (number_of x.refusal) s ≡ make_form s i
     unfolding make_form make_read made_back
-    unmade k t x = rw (← p, ← x, not_0 k)
+    unmade x f = rw (← p, ← f, not_0 x.refusal)
 
-    pub made_on : (t : Machine) → made (Ok tt) t ≡ make_valid a.machine i → (s' : List ℕ) → s' ≡ written t a.frames s → formed 0 s' ≡ make_form s i
+    pub made_on : (t : Machine) → made (Ok t) ≡ make_valid a.machine i → (s' : List ℕ) → s' ≡ written t a.frames s → formed 0 s' ≡ make_form s i
     unfolding make_form make_read made_back
     made_on t x s' f = rw (← p, ← x, f)
 

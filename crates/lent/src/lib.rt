@@ -54,11 +54,11 @@ pub fn completed_by(e: Event) -> u16
 pub fn deliver(form: &mut [u8], memory: &mut [u8], event: &[u8]) -> Result<(), Refusal>
     ensures { moved (refused_by result) form.new memory.new ≡ deliver_form form.old memory.old event.now }
 {
-    let mut a = read_lent(form, memory.len(), event.len())?;
+    let a = read_lent(form, memory.len(), event.len())?;
     let e = handed::event_in(event);
-    deliver::deliver(&mut a.machine, memory, e)?;
+    let next = deliver::deliver(a.machine, memory, e)?;
     // Never refused: `works_for_c`, crates/theorems.
-    let _ = write_form(a.machine, a.frames, form);
+    let _ = write_form(next, a.frames, form);
     Ok(())
 }
 
@@ -67,9 +67,9 @@ pub fn deliver(form: &mut [u8], memory: &mut [u8], event: &[u8]) -> Result<(), R
 pub fn make_valid(form: &mut [u8], descriptor: u8) -> Result<(), Refusal>
     ensures { formed (refused_by result) form.new ≡ make_form form.old descriptor }
 {
-    let mut a = read_form(form)?;
-    valid::make_valid(&mut a.machine, descriptor)?;
+    let a = read_form(form)?;
+    let next = valid::make_valid(a.machine, descriptor)?;
     // Never refused: `works_for_c`, crates/theorems.
-    let _ = write_form(a.machine, a.frames, form);
+    let _ = write_form(next, a.frames, form);
     Ok(())
 }

@@ -1,5 +1,5 @@
 -- Saving status and taking the new one: document 01, with sections 6.4.2 to 6.6 of the manual (lines 7704 to 7813).
-use Rattle.std.specs.Prelude.{ℕ, ◌+◌, ◌*◌, ◌/◌, Bool, true, false, cond, List, [], ◌∷◌, ◌++◌, Result}
+use Rattle.std.specs.Prelude.{ℕ, ◌+◌, ◌*◌, ◌/◌, Bool, true, false, cond, List, [], ◌∷◌, ◌++◌, Result, Ok, Err}
 use Rattle.std.proofs.Math.Option.{Option, none, some}
 use Rattle.regs.specs.declared.Control.{Control}
 use Rattle.regs.specs.declared.Machine.{Machine}
@@ -8,8 +8,8 @@ use Rattle.plan.specs.Kinds.{plus}
 use Rattle.board.specs.Program as b
 use Rattle.bus.specs.Board.{real, load_at}
 use Rattle.bus.specs.Leave.{state_of, two_writes}
-use Rattle.legal.specs.declared.refusal.Refusal.{Refusal}
-use Rattle.legal.specs.Refusal.{refused_by}
+use Rattle.legal.specs.declared.refusal.Refused.{Refused}
+use Rattle.legal.specs.Refusal.{number_of}
 
 -- an answer: 0 or the refusal's number, and the machine
 pub record Delivered : Type 0 where
@@ -28,9 +28,9 @@ delivered m w = record { answer = record { refusal = 0; machine = m }; memory = 
 abbrev pub refusal : ℕ → Machine → List ℕ → Outcome
 refusal k m w = record { answer = record { refusal = k; machine = m }; memory = w }
 
--- of a call that answered r, and left the record m and the memory w
-abbrev pub outcome : Result (Unit {0}) Refusal → Machine → List ℕ → Outcome
-outcome r m w = record { answer = record { refusal = refused_by r; machine = m }; memory = w }
+abbrev pub outcome : Result Machine Refused → List ℕ → Outcome
+outcome (Ok t) w = delivered t w
+outcome (Err x) w = refusal (number_of x.refusal) x.machine w
 
 -- ── saving status (6.4.2, line 7704) ──
 

@@ -11,16 +11,15 @@ use lib.ListN.{length, take, drop, length-drop}
 use lib.Seq.{take_all, drop-length}
 use Rattle.std.specs.Prelude.{◌≢◌, Ok, Err}
 use Rattle.bus.specs.Leave.{event_of}
-use Rattle.legal.specs.declared.refusal.Refusal.{Refusal}
+use Rattle.legal.specs.declared.refusal.Refused as back
 use Rattle.legal.specs.Refusal.{number_of}
 use Rattle.legal.proofs.Numbers.{not_0}
-use Rattle.regs.specs.declared.Machine.{Machine}
 use Rattle.form.specs.declared.Restored.{Restored}
 use Rattle.form.specs.declared.Unread.{Unread}
 use Rattle.form.specs.Form.{Reading, reading, refused, read_form}
 use Rattle.form.proofs.Accepted.{accepted, whole}
 use Rattle.form.proofs.Tests.{length_3}
-use Rattle.host.specs.declared.Ran.{Ran}
+use Rattle.steps.specs.declared.Ran.{Ran}
 use Rattle.host.specs.Host as host
 use Rattle.host.specs.Host.{refusal_of, ran, run_of}
 use Rattle.line.specs.Line.{Shown, Refused, Ended}
@@ -69,14 +68,14 @@ module _ (s : List ℕ) where
     not_exact h = form_read (Refused 1) memory (rw (ne_eqb (length memory) (a.frames * 4096) h))
 
     module _ (exact : length memory ≡ a.frames * 4096) where
-      pub run_ended : (r : Ran) (t : Machine) (new : List ℕ) (n : Numbered) → ran (Ok r) t new ≡ run_of a.machine memory 1000 →
+      pub run_ended : (r : Ran) (new : List ℕ) (n : Numbered) → ran (Ok r) new ≡ run_of a.machine memory 1000 →
           n ≡ event_numbers (event_of r.event) →
-          outcome (Ended n.number r.steps t.regs.pc) (put_mid 101 (length s - 101) s new) ≡ shown_of s
+          outcome (Ended n.number r.steps r.machine.regs.pc) (put_mid 101 (length s - 101) s new) ≡ shown_of s
       unfolding worked
-      run_ended r t new n p h = form_read _ new (rw (eq-eqb (length memory) (a.frames * 4096) exact, ← p, h))
+      run_ended r new n p h = form_read _ new (rw (eq-eqb (length memory) (a.frames * 4096) exact, ← p, h))
 
-      pub run_never : (k : Refusal) (t : Machine) (new : List ℕ) → ran (Err k) t new ≡ run_of a.machine memory 1000 → ⊥
-      run_never k t new p =
+      pub run_never : (x : back.Refused) (new : List ℕ) → ran (Err x) new ≡ run_of a.machine memory 1000 → ⊥
+      run_never x new p =
           let z : (run_of a.machine memory 1000).refusal ≡ 0 = not_refused (take 101 s) memory a e exact in
-          let y : eqb (number_of k) 0 ≡ true = rw (ap (λ (o : host.Outcome). o.refusal) p, z) in
-          let x : true ≡ false = sym y ∙ not_0 k in cc
+          let y : eqb (number_of x.refusal) 0 ≡ true = rw (ap (λ (o : host.Outcome). o.refusal) p, z) in
+          let f : true ≡ false = sym y ∙ not_0 x.refusal in cc

@@ -18,16 +18,16 @@ pub fn show(input: &mut [u8]) -> Result<End, Refusal>
     if input.len() < LENGTH {
         return Err(Refusal::BufferLength);
     }
-    let mut a = form::read_form(&input[..LENGTH])?;
+    let a = form::read_form(&input[..LENGTH])?;
     let w = &mut input[LENGTH..];
     if w.len() != a.frames as usize * 4096 {
         return Err(Refusal::MemoryLength);
     }
-    let r = host::run(&mut a.machine, w, STEPS)?;
+    let r = host::run(a.machine, w, STEPS)?;
     let n = Numbered::from(r.event);
     Ok(End {
         event: n.number,
         steps: r.steps,
-        pc: a.machine.regs.pc,
+        pc: r.machine.regs.pc,
     })
 }

@@ -1,5 +1,5 @@
 // The machine's public face for Rattle (that for C is crate `z280`): every public call and type. A call refuses by a `Refusal`, in the
-// order that is given here by the numbers of document 01; a refused call changes neither the record nor a byte lent to it.
+// order that is given here by the numbers of document 01; a refused call changes no lent byte and hands the record back as it was.
 #![tactic(auto)]
 
 // The machine record: registers, control registers, MMU control, 32 page descriptors.
@@ -16,9 +16,13 @@ pub use plan::kinds::Stop;
 
 // Why a call did nothing: document 01's refusals 1 to 10.
 pub use legal::refusal::Refusal;
+// What a call on a record answers that it refuses: the refusal, and the record as it was.
+pub use legal::refusal::Refused;
 
-// What a run answers: event, steps completed.
-pub use host::Ran;
+// What a step answers: machine, event.
+pub use host::Stepped;
+// What a run answers: machine, event, steps completed.
+pub use steps::Ran;
 // What the reader answers: machine, frames of its memory.
 pub use form::Restored;
 // What it answers of a form that it refuses: refusal, and the reset record with one frame.
@@ -26,7 +30,7 @@ pub use form::Unread;
 
 // The reset record: zero throughout. Refuses nothing.
 pub use legal::reset;
-// One step of the lent record on the lent memory: its event. Refusals 1, 2.
+// One step on the lent memory. Refusals 1, 2.
 pub use host::step;
 // Up to `budget` steps, to the first event other than 0. Refusals 1, 2.
 pub use host::run;

@@ -13,8 +13,10 @@ use Rattle.bus.specs.Leave.{event_of}
 use Rattle.std.specs.Prelude.{Result, Ok, Err}
 use Rattle.regs.specs.declared.Machine.{Machine}
 use Rattle.legal.specs.declared.refusal.Refusal.{Refusal}
-use Rattle.legal.proofs.Numbers.{answer_in, numbered, not_0, numbered_back, refused_back, once}
-use Rattle.host.specs.declared.Ran.{Ran}
+use Rattle.legal.proofs.Numbers.{numbered, not_0, numbered_back, once, recorded, record_back}
+use Rattle.legal.specs.declared.refusal.Refused.{Refused}
+use Rattle.host.specs.declared.Stepped.{Stepped}
+use Rattle.steps.specs.declared.Ran.{Ran}
 use Rattle.host.specs.Host.{machine_in, StepOutcome, stepped, Outcome, ran}
 use Rattle.valid.proofs.Unique.{made_once}
 use Rattle.deliver.proofs.Unique.{delivered_once}
@@ -36,38 +38,34 @@ event_back (Violation i a) = refl
 event_back (Absent p) = refl
 event_back (Stopped e) = refl
 
-abbrev step_in : StepOutcome → Result Event Refusal
-step_in o = answer_in o.refusal (event_in o.answer.event)
+abbrev step_in : StepOutcome → Result Stepped Refused
+step_in o =
+    let m : Machine = machine_in o.answer.state in
+    recorded o.refusal m (record { machine = m; event = event_in o.answer.event })
 
-step_back : (r : Result Event Refusal) (m : Machine) (w : List ℕ) → step_in (stepped r m w) ≡ r
-step_back (Ok e) m w = ap (λ (e : Event). Ok e) (event_back e)
-step_back (Err k) m w = refused_back k (event_in b.completed)
+step_back : (r : Result Stepped Refused) (w : List ℕ) → step_in (stepped r w) ≡ r
+step_back (Ok r) w = ap (λ (e : Event). Ok (record { machine = r.machine; event = e })) (event_back r.event)
+step_back (Err x) w = record_back x (record { machine = x.machine; event = event_in b.completed })
 
-step_machine : (r : Result Event Refusal) (m : Machine) (w : List ℕ) → machine_in (stepped r m w).answer.state ≡ m
-step_machine (Ok e) m w = refl
-step_machine (Err k) m w = refl
+step_bytes : (r : Result Stepped Refused) (w : List ℕ) → (stepped r w).answer.state.mem ≡ w
+step_bytes (Ok r) w = refl
+step_bytes (Err x) w = refl
 
-step_bytes : (r : Result Event Refusal) (m : Machine) (w : List ℕ) → (stepped r m w).answer.state.mem ≡ w
-step_bytes (Ok e) m w = refl
-step_bytes (Err k) m w = refl
+abbrev run_in : Outcome → Result Ran Refused
+run_in o =
+    let m : Machine = machine_in o.ran.state in
+    recorded o.refusal m (record { machine = m; event = event_in o.ran.event; steps = o.ran.steps })
 
-abbrev run_in : Outcome → Result Ran Refusal
-run_in o = answer_in o.refusal (record { event = event_in o.ran.event; steps = o.ran.steps })
-
-run_back : (r : Result Ran Refusal) (m : Machine) (w : List ℕ) → run_in (ran r m w) ≡ r
+run_back : (r : Result Ran Refused) (w : List ℕ) → run_in (ran r w) ≡ r
 unfolding ended
-run_back (Ok r) m w = ap (λ (e : Event). Ok (record { event = e; steps = r.steps })) (event_back r.event)
-run_back (Err k) m w = refused_back k (record { event = event_in b.completed; steps = 0 })
+run_back (Ok r) w =
+    ap (λ (e : Event). Ok (record { machine = r.machine; event = e; steps = r.steps })) (event_back r.event)
+run_back (Err x) w = record_back x (record { machine = x.machine; event = event_in b.completed; steps = 0 })
 
-run_machine : (r : Result Ran Refusal) (m : Machine) (w : List ℕ) → machine_in (ran r m w).ran.state ≡ m
+run_bytes : (r : Result Ran Refused) (w : List ℕ) → (ran r w).ran.state.mem ≡ w
 unfolding ended
-run_machine (Ok r) m w = refl
-run_machine (Err k) m w = refl
-
-run_bytes : (r : Result Ran Refusal) (m : Machine) (w : List ℕ) → (ran r m w).ran.state.mem ≡ w
-unfolding ended
-run_bytes (Ok r) m w = refl
-run_bytes (Err k) m w = refl
+run_bytes (Ok r) w = refl
+run_bytes (Err x) w = refl
 
 abbrev read_in : Reading → Result Restored Unread
 read_in x =
@@ -82,20 +80,14 @@ pub determined : Determined
 determined =
     record {
       step =
-          λ m w r s m' n' w' v' p q. (
-            sym (step_back r m' w') ∙ ap step_in (p ∙ sym q) ∙ step_back s n' v',
-            (
-              sym (step_machine r m' w') ∙ ap (λ (o : StepOutcome). machine_in o.answer.state) (p ∙ sym q) ∙ step_machine s n' v',
-              sym (step_bytes r m' w') ∙ ap (λ (o : StepOutcome). o.answer.state.mem) (p ∙ sym q) ∙ step_bytes s n' v',
-            ),
+          λ m w r s w' v' p q. (
+            sym (step_back r w') ∙ ap step_in (p ∙ sym q) ∙ step_back s v',
+            sym (step_bytes r w') ∙ ap (λ (o : StepOutcome). o.answer.state.mem) (p ∙ sym q) ∙ step_bytes s v',
           );
       run =
-          λ m w budget r s m' n' w' v' p q. (
-            sym (run_back r m' w') ∙ ap run_in (p ∙ sym q) ∙ run_back s n' v',
-            (
-              sym (run_machine r m' w') ∙ ap (λ (o : Outcome). machine_in o.ran.state) (p ∙ sym q) ∙ run_machine s n' v',
-              sym (run_bytes r m' w') ∙ ap (λ (o : Outcome). o.ran.state.mem) (p ∙ sym q) ∙ run_bytes s n' v',
-            ),
+          λ m w budget r s w' v' p q. (
+            sym (run_back r w') ∙ ap run_in (p ∙ sym q) ∙ run_back s v',
+            sym (run_bytes r w') ∙ ap (λ (o : Outcome). o.ran.state.mem) (p ∙ sym q) ∙ run_bytes s v',
           );
       deliver = delivered_once;
       making_valid = made_once;

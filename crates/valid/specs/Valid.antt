@@ -1,10 +1,10 @@
 -- Making a page valid: document 01.
-use Rattle.std.specs.Prelude.{ℕ, cond, ltb, get_or, Result}
+use Rattle.std.specs.Prelude.{ℕ, cond, ltb, get_or, Result, Ok, Err}
 use Rattle.regs.specs.declared.Machine.{Machine}
 use Rattle.mmu.specs.Translate.{valid, set_valid, change}
 use Rattle.legal.specs.Legal.{allowed_bits}
-use Rattle.legal.specs.declared.refusal.Refusal.{Refusal}
-use Rattle.legal.specs.Refusal.{refused_by}
+use Rattle.legal.specs.declared.refusal.Refused.{Refused}
+use Rattle.legal.specs.Refusal.{number_of}
 
 -- an answer: 0 or the refusal's number, and the machine
 pub record Made : Type 0 where
@@ -14,9 +14,9 @@ pub record Made : Type 0 where
 abbrev pub unmade : ℕ → Machine → Made
 unmade k m = record { refusal = k; machine = m }
 
--- .. of a call that answered r, and left the record m
-abbrev pub made : Result (Unit {0}) Refusal → Machine → Made
-made r m = record { refusal = refused_by r; machine = m }
+abbrev pub made : Result Machine Refused → Made
+made (Ok t) = record { refusal = 0; machine = t }
+made (Err x) = unmade (number_of x.refusal) x.machine
 
 -- the valid bit of descriptor n, and nothing else
 abbrev pub made_valid : Machine → ℕ → Machine

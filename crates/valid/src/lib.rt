@@ -4,24 +4,25 @@
 ghost use Rattle.std.specs.Prelude.{◌≡◌};
 ghost use Rattle.valid.specs.Valid.{make_valid, made};
 
-use legal::refusal::Refusal;
+use legal::refusal::{Refusal, Refused};
 use regs::Machine;
 
-// Sets the valid bit of descriptor n. Refused, it changes nothing.
+// Sets the valid bit of descriptor n. Refused, it hands the record back.
 #[tactic(auto, using(crate::proofs::Descriptor::itself), unfolding(crate::specs::Valid::make_valid))]
-pub fn make_valid(m: &mut Machine, n: u8) -> Result<(), Refusal>
-    ensures { made result m.new ≡ make_valid m.old n }
+pub fn make_valid(m: Machine, n: u8) -> Result<Machine, Refused>
+    ensures { made result ≡ make_valid m n }
 {
-    if !legal::allowed(*m) {
-        return Err(Refusal::ReservedBit);
+    if !legal::allowed(m) {
+        return Err(Refusal::ReservedBit.beside(m));
     }
     if n >= 32 {
-        return Err(Refusal::NoDescriptor);
+        return Err(Refusal::NoDescriptor.beside(m));
     }
-    let already = mmu::is_valid(&m.ds, n);
+    let mut ds = m.ds;
+    let already = mmu::is_valid(&ds, n);
     if already {
-        return Err(Refusal::AlreadyValid);
+        return Err(Refusal::AlreadyValid.beside(m));
     }
-    mmu::make_valid(&mut m.ds, n);
-    Ok(())
+    mmu::make_valid(&mut ds, n);
+    Ok(Machine { ds, ..m })
 }

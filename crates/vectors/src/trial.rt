@@ -86,10 +86,10 @@ impl Trial {
     }
 
     fn run(&mut self) {
-        let mut m = self.cells.machine();
-        let (refusal, e) = match host::run(&mut m, &mut self.memory, self.cells.steps) {
-            Ok(r) => (0, r.event),
-            Err(k) => (k.number(), Event::Completed),
+        let a = host::run(self.cells.machine(), &mut self.memory, self.cells.steps);
+        let (refusal, m, e) = match a {
+            Ok(r) => (0, r.machine, r.event),
+            Err(k) => (k.refusal.number(), k.machine, Event::Completed),
         };
         self.cells.put_answer(refusal, m);
         self.cells.put_event(e);

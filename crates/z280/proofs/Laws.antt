@@ -8,6 +8,7 @@ use lib.Dec.{eqb}
 use lib.ListN.{length}
 use Rattle.bus.specs.Leave.{event_of}
 use Rattle.legal.specs.declared.refusal.Refusal.{Refusal}
+use Rattle.legal.specs.declared.refusal.Refused.{Refused}
 use Rattle.legal.specs.Refusal.{number_of}
 use Rattle.legal.proofs.Numbers.{not_0}
 use Rattle.form.specs.declared.Restored.{Restored}
@@ -15,9 +16,8 @@ use Rattle.form.specs.Form.{Reading, reading, written, read_form}
 use Rattle.form.proofs.Accepted.{accepted, whole}
 use Rattle.events.specs.Events.{event_numbers}
 use Rattle.events.specs.Bytes.{answer_bytes}
-use Rattle.regs.specs.declared.Machine.{Machine}
-use Rattle.bus.specs.declared.kinds.Event.{Event}
-use Rattle.host.specs.declared.Ran.{Ran}
+use Rattle.host.specs.declared.Stepped.{Stepped}
+use Rattle.steps.specs.declared.Ran.{Ran}
 use Rattle.host.specs.Host.{refusal_of, StepOutcome, stepped, step_of, Outcome, ran, run_of}
 use Rattle.lent.specs.Lent.{lent_refusal, completed_by}
 use Rattle.lent.proofs.Laws.{taken}
@@ -49,22 +49,22 @@ module _ (s w e : List ℕ) where
     fine : refusal_of a.machine (length w) ≡ 0
     fine = ap (λ (r : Reading). refusal_of r.machine (length w)) p ∙ admitted s (length w) (length e) q
 
-    pub step_never : (k : Refusal) (t : Machine) (w' : List ℕ) → stepped (Err k) t w' ≡ step_of a.machine w → ⊥
+    pub step_never : (x : Refused) (w' : List ℕ) → stepped (Err x) w' ≡ step_of a.machine w → ⊥
     unfolding step_of
-    step_never k t w' x = contradicted k _ (ap (λ (o : StepOutcome). o.refusal) x) fine
+    step_never x w' f = contradicted x.refusal _ (ap (λ (o : StepOutcome). o.refusal) f) fine
 
-    pub run_never : (budget : ℕ) (k : Refusal) (t : Machine) (w' : List ℕ) → ran (Err k) t w' ≡ run_of a.machine w budget → ⊥
+    pub run_never : (budget : ℕ) (x : Refused) (w' : List ℕ) → ran (Err x) w' ≡ run_of a.machine w budget → ⊥
     unfolding run_of
-    run_never budget k t w' x = contradicted k _ (ap (λ (o : Outcome). o.refusal) x) fine
+    run_never budget x w' f = contradicted x.refusal _ (ap (λ (o : Outcome). o.refusal) f) fine
 
-    pub step_on : (v : Event) (t : Machine) (w' : List ℕ) → stepped (Ok v) t w' ≡ step_of a.machine w →
-        (steps : ℕ) → steps ≡ completed_by (event_of v) → (e' : List ℕ) → e' ≡ answer_bytes (event_numbers (event_of v)) steps →
-        (s' : List ℕ) → s' ≡ written t a.frames s → answered 0 s' w' e' ≡ step_form s w e
+    pub step_on : (r : Stepped) (w' : List ℕ) → stepped (Ok r) w' ≡ step_of a.machine w →
+        (steps : ℕ) → steps ≡ completed_by (event_of r.event) → (e' : List ℕ) → e' ≡ answer_bytes (event_numbers (event_of r.event)) steps →
+        (s' : List ℕ) → s' ≡ written r.machine a.frames s → answered 0 s' w' e' ≡ step_form s w e
     unfolding step_form step_read
-    step_on v t w' x steps y e' z s' f = rw (← q, ← p, ← x, f, z, y)
+    step_on r w' x steps y e' z s' f = rw (← q, ← p, ← x, f, z, y)
 
-    pub run_on : (budget : ℕ) (r : Ran) (t : Machine) (w' : List ℕ) → ran (Ok r) t w' ≡ run_of a.machine w budget →
+    pub run_on : (budget : ℕ) (r : Ran) (w' : List ℕ) → ran (Ok r) w' ≡ run_of a.machine w budget →
         (e' : List ℕ) → e' ≡ answer_bytes (event_numbers (event_of r.event)) r.steps →
-        (s' : List ℕ) → s' ≡ written t a.frames s → answered 0 s' w' e' ≡ run_form s w budget e
+        (s' : List ℕ) → s' ≡ written r.machine a.frames s → answered 0 s' w' e' ≡ run_form s w budget e
     unfolding run_form run_read
-    run_on budget r t w' x e' z s' f = rw (← q, ← p, ← x, f, z)
+    run_on budget r w' x e' z s' f = rw (← q, ← p, ← x, f, z)

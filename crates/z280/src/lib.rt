@@ -15,11 +15,11 @@ use lent::{completed_by, read_lent};
 fn step(form: &mut [u8], memory: &mut [u8], answer: &mut [u8]) -> Result<(), Refusal>
     ensures { answered (refused_by result) form.new memory.new answer.new ≡ step_form form.old memory.old answer.old }
 {
-    let mut a = read_lent(form, memory.len(), answer.len())?;
-    let e = host::step(&mut a.machine, memory)?;
-    events::put_answer(answer, e, completed_by(e));
+    let a = read_lent(form, memory.len(), answer.len())?;
+    let r = host::step(a.machine, memory)?;
+    events::put_answer(answer, r.event, completed_by(r.event));
     // Never refused: `works_for_c`, crates/theorems.
-    let _ = write_form(a.machine, a.frames, form);
+    let _ = write_form(r.machine, a.frames, form);
     Ok(())
 }
 
@@ -27,11 +27,11 @@ fn step(form: &mut [u8], memory: &mut [u8], answer: &mut [u8]) -> Result<(), Ref
 fn run(form: &mut [u8], memory: &mut [u8], budget: u16, answer: &mut [u8]) -> Result<(), Refusal>
     ensures { answered (refused_by result) form.new memory.new answer.new ≡ run_form form.old memory.old budget answer.old }
 {
-    let mut a = read_lent(form, memory.len(), answer.len())?;
-    let r = host::run(&mut a.machine, memory, budget)?;
+    let a = read_lent(form, memory.len(), answer.len())?;
+    let r = host::run(a.machine, memory, budget)?;
     events::put_answer(answer, r.event, r.steps);
     // Never refused: `works_for_c`, crates/theorems.
-    let _ = write_form(a.machine, a.frames, form);
+    let _ = write_form(r.machine, a.frames, form);
     Ok(())
 }
 

@@ -2,12 +2,12 @@ use Rattle.lent.proofs.Laws.{twelve}
 use Rattle.z280.proofs.Laws.{step_never, step_on}
 use Rattle.z280.proofs.step.Goals as goal
 
-pub returns-in_err-e : goal.returns-in_err-e
-returns-in_err-e c = absurd (step_never _ _ _ _ c.in_ok-a.ensures.refusal c.in_ok-a.ensures.read _ _ _ c.in_err-e.ensures)
+pub returns-in_err-r : goal.returns-in_err-r
+returns-in_err-r c = absurd (step_never _ _ _ _ c.in_ok-a.ensures.refusal c.in_ok-a.ensures.read _ _ c.in_err-r.ensures)
 
 pub put_answer-requires : goal.put_answer-requires
 put_answer-requires c = twelve _ _ _ c.in_ok-a.ensures.refusal
 
 pub returns : goal.returns
 returns c =
-    step_on _ _ _ _ c.in_ok-a.ensures.refusal c.in_ok-a.ensures.read _ _ _ c.in_ok-e.ensures _ c.completed_by.ensures _ c.put_answer.ensures _ c.write_form.ensures.1
+    step_on _ _ _ _ c.in_ok-a.ensures.refusal c.in_ok-a.ensures.read _ _ c.in_ok-r.ensures _ c.completed_by.ensures _ c.put_answer.ensures _ c.write_form.ensures.1

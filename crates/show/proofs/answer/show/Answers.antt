@@ -6,8 +6,8 @@ pub returns-then-w-a : goal.returns-then-w-a
 returns-then-w-a c = not_exact _ c.if-input-lt-LENGTH.false _ c.in_ok-a.ensures c.if-w-a.true
 
 pub returns-in_err-r : goal.returns-in_err-r
-returns-in_err-r c = absurd (run_never _ c.if-input-lt-LENGTH.false _ c.in_ok-a.ensures c.if-w-a.false _ _ _ c.in_err-r.ensures)
+returns-in_err-r c = absurd (run_never _ c.if-input-lt-LENGTH.false _ c.in_ok-a.ensures c.if-w-a.false _ _ c.in_err-r.ensures)
 
 pub returns : goal.returns
 returns c =
-    run_ended _ c.if-input-lt-LENGTH.false _ c.in_ok-a.ensures c.if-w-a.false _ _ _ _ c.in_ok-r.ensures c.from-n.ensures
+    run_ended _ c.if-input-lt-LENGTH.false _ c.in_ok-a.ensures c.if-w-a.false _ _ _ c.in_ok-r.ensures c.from-n.ensures
