@@ -41,6 +41,7 @@ fn field(r: Regs, i: Ins) -> u8
     r.byte(i.opening, i.code / 8 % 8)
 }
 
+#[inline(always)]
 pub fn dec_r(r: Regs, i: Ins) -> Done
     ensures { result ≡ dec_r r i }
 {
@@ -59,6 +60,7 @@ pub fn exts_a(r: Regs) -> Done
     still(r.with_hl(sums::exts8(r.a())))
 }
 
+#[inline(always)]
 pub fn inc_r(r: Regs, i: Ins) -> Done
     ensures { result ≡ inc_r r i }
 {

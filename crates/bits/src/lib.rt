@@ -26,6 +26,7 @@ pub fn bit_m(r: Regs, i: Ins, v: u32) -> Done
     still(r.with_f(logic::bit_test(i.code / 8 % 8, low8(v), r.f())))
 }
 
+#[inline(always)]
 pub fn res_r(r: Regs, i: Ins) -> Done
     ensures { result ≡ res_r r i }
 {
@@ -38,6 +39,7 @@ pub fn res_m(r: Regs, i: Ins, s: Spot, v: u32) -> Done
     storing(r, s, logic::res(i.code / 8 % 8, low8(v)))
 }
 
+#[inline(always)]
 pub fn rot_r(r: Regs, i: Ins) -> Done
     ensures { result ≡ rot_r r i }
 {
@@ -61,6 +63,7 @@ pub fn rot_a(r: Regs, i: Ins) -> Done
     still(r.with_af(logic::rotate_a(i.code / 8 % 8, r.a(), r.f())))
 }
 
+#[inline(always)]
 pub fn set_r(r: Regs, i: Ins) -> Done
     ensures { result ≡ set_r r i }
 {

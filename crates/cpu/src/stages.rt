@@ -57,6 +57,7 @@ pub fn missing_of(r: Regs, c: Control, e: u16) -> Stop
 }
 
 #[tactic(auto, unfolding(crate::specs::Program::arg_of))]
+#[inline(always)]
 fn arg_of(bytes: u8, d: u8, n: u64) -> u32
     ensures { result ≡ arg_of bytes d n }
 {
@@ -68,6 +69,7 @@ fn arg_of(bytes: u8, d: u8, n: u64) -> u32
 }
 
 #[tactic(auto, unfolding(crate::specs::Program::ins_of))]
+#[inline(always)]
 pub fn ins_of(r: Regs, o: u8, b: u8, d: u8, e: u16, at: u16, n: u64) -> Ins
     ensures { result ≡ ins_of r o b d e at n }
 {

@@ -1,8 +1,8 @@
 -- What a kept page answers, and how the table comes to be right. All over plain values.
 use Rattle.std.specs.Prelude.{Ok, Err}
 use Prim.Native.Nat.{ℕ, ◌+◌, ◌*◌, ◌/◌, ◌%◌, ◌<◌, ◌≤◌}
-use mathlib.Core.Path.{◌≡◌, refl, sym, ap, ◌∙◌}
-use mathlib.Core.Bool.{Bool, true, false, cond, ◌||◌}
+use mathlib.Core.Path.{◌≡◌, refl, sym, ap}
+use mathlib.Core.Bool.{Bool, true, false, cond}
 use mathlib.Core.List.{List}
 use native.Mathlib.Omega.{arith}
 use borrow.Author.Tests.{eqb-false, eq-eqb, ne_eqb, lt-ltb}
@@ -18,8 +18,7 @@ use Rattle.bus.specs.Leave.{one_write, two_writes}
 use Rattle.bus.specs.Write.{Wrote}
 use Rattle.bus.proofs.Reading.{one_read, all_read}
 use Rattle.bus.proofs.Ends.{wrote_1, wrote_2}
-use Rattle.kept.specs.declared.access.Found.TheVariants.{Is, Gone}
-use Rattle.kept.specs.Kept.{for_program, for_write, Placed, Right, Inside}
+use Rattle.kept.specs.Kept.{for_program, for_write, Placed, Right, Inside, Lies, Reads, Writes}
 
 -- ── an address and its page's first ──
 
@@ -165,51 +164,35 @@ module _ (kept w : List ℕ) (a : ℕ) (l : a < 65536) (inside : Inside kept (le
 
 -- ── what the functions cite ──
 
-pub no_word : (v : ℕ) → Gone ≡ Is v → ⊥
-no_word v h = let z : ◌≡◌ {A = ℕ} 0 1 = cc in omega arith
-
 pub not_both : true ≡ false → ⊥
 not_both h = let z : ◌≡◌ {A = ℕ} 0 1 = cc in omega arith
 
-is_same : (r v : ℕ) → Is r ≡ Is v → r ≡ v
-is_same r v h = cc
+module _ (kept w : List ℕ) (a p : ℕ) (l : a < 65536) (inside : Inside kept (length w)) where
+  for_reads : (n : ℕ) → Lies kept (0 + a / 4096) a n p → Lies kept (a / 4096) a n p
+  for_reads n h = let e : 0 + a / 4096 ≡ a / 4096 = omega arith in rw e at h
 
-first_no : (s t : Bool) → (s || t) ≡ false → s ≡ false
-first_no true t h = h
-first_no false t h = refl
+  for_writes : (n : ℕ) → Lies kept (32 + a / 4096) a n p → Lies kept (a / 4096 + 32) a n p
+  for_writes n h = let e : 32 + a / 4096 ≡ a / 4096 + 32 = omega arith in rw e at h
 
-second_no : (s t : Bool) → (s || t) ≡ false → t ≡ false
-second_no true t h = absurd (not_both h)
-second_no false t h = h
+  pub byte_read : Lies kept (0 + a / 4096) a 1 p → (v : ℕ) → v ≡ get_or w p 0 → v < 256 → Reads kept w 1 a v
+  unfolding joined
+  byte_read h v e s user mmu ds right =
+      let g = for_reads 1 h in
+      byte_is kept w a l inside g.some user mmu ds right p v v g.place e (omega arith)
 
-pub byte_found : (kept w : List ℕ) (a p b r : ℕ) → a < 65536 → Inside kept (length w) → eqb (get_or kept (a / 4096) 0) 1 ≡ false →
-    p ≡ get_or kept (a / 4096) 0 + a % 4096 → b ≡ get_or w p 0 → r ≡ joined b 0 →
-    (v : ℕ) → Is r ≡ Is v → (user : Bool) (mmu : ℕ) (ds : List ℕ) → Right kept user mmu ds → got_many 1 user mmu ds w false a ≡ Ok v
-byte_found kept w a p b r l i t e f j v h user mmu ds right = byte_is kept w a l i t user mmu ds right p b v e f (sym (is_same r v h) ∙ j)
+  pub word_read : Lies kept (0 + a / 4096) a 2 p → (b c v : ℕ) → b ≡ get_or w p 0 → c ≡ get_or w (p + 1) 0 → b < 256 → c < 256 → v ≡ b + c * 256 →
+      Reads kept w 2 a v
+  unfolding joined
+  word_read h b c v f g s t e user mmu ds right =
+      let q = for_reads 2 h in
+      word_is kept w a l inside q.some user mmu ds right p b c c v (ne_eqb (a % 4096) 4095 (λ n. omega (arith, q.room))) q.place f g (omega arith) (omega arith)
 
-module _ (kept w : List ℕ) (a p : ℕ) (l : a < 65536) (i : Inside kept (length w)) where
-  pub next_read : (eqb (get_or kept (a / 4096) 0) 1 || eqb (a % 4096) 4095) ≡ false → p ≡ get_or kept (a / 4096) 0 + a % 4096 → p + 1 < length w
-  next_read t e =
-      let n : a % 4096 + 1 < 4096 = omega (arith, eqb-false (a % 4096) 4095 (second_no (eqb (get_or kept (a / 4096) 0) 1) (eqb (a % 4096) 4095) t)) in
-      let q : p + 1 ≡ get_or kept (a / 4096) 0 + (a % 4096 + 1) = omega arith in
-      read_in kept w a l i (first_no (eqb (get_or kept (a / 4096) 0) 1) (eqb (a % 4096) 4095) t) (p + 1) (a % 4096 + 1) q n
+  pub byte_put : Lies kept (32 + a / 4096) a 1 p → (b : ℕ) → Writes kept (one_write false a b) w (set w p b)
+  byte_put h b user mmu ds right =
+      let g = for_writes 1 h in
+      one_put kept w a l inside g.some user mmu ds right p b g.place
 
-  pub next_write : (eqb (get_or kept (a / 4096 + 32) 0) 1 || eqb (a % 4096) 4095) ≡ false → p ≡ get_or kept (a / 4096 + 32) 0 + a % 4096 → p + 1 < length w
-  next_write t e =
-      let n : a % 4096 + 1 < 4096 = omega (arith, eqb-false (a % 4096) 4095 (second_no (eqb (get_or kept (a / 4096 + 32) 0) 1) (eqb (a % 4096) 4095) t)) in
-      let q : p + 1 ≡ get_or kept (a / 4096 + 32) 0 + (a % 4096 + 1) = omega arith in
-      write_in kept w a l i (first_no (eqb (get_or kept (a / 4096 + 32) 0) 1) (eqb (a % 4096) 4095) t) (p + 1) (a % 4096 + 1) q n
-
-  pub word_found : (b c u r : ℕ) → (eqb (get_or kept (a / 4096) 0) 1 || eqb (a % 4096) 4095) ≡ false → p ≡ get_or kept (a / 4096) 0 + a % 4096 →
-      b ≡ get_or w p 0 → c ≡ get_or w (p + 1) 0 → u ≡ joined c 0 → r ≡ joined b u →
-      (v : ℕ) → Is r ≡ Is v → (user : Bool) (mmu : ℕ) (ds : List ℕ) → Right kept user mmu ds → got_many 2 user mmu ds w false a ≡ Ok v
-  word_found b c u r t e f g j k v h user mmu ds right =
-      word_is kept w a l i (first_no (eqb (get_or kept (a / 4096) 0) 1) (eqb (a % 4096) 4095) t) user mmu ds right p b c u v
-      (second_no (eqb (get_or kept (a / 4096) 0) 1) (eqb (a % 4096) 4095) t) e f g j (sym (is_same r v h) ∙ k)
-
-  pub word_put : (v : ℕ) → (eqb (get_or kept (a / 4096 + 32) 0) 1 || eqb (a % 4096) 4095) ≡ false → p ≡ get_or kept (a / 4096 + 32) 0 + a % 4096 →
-      (user : Bool) (mmu : ℕ) (ds : List ℕ) → Right kept user mmu ds →
-      Wrote user mmu (two_writes false a v) (Ok tt) ds w ds (set (set w p (v % 256)) (p + 1) (v / 256))
-  word_put v t e user mmu ds right =
-      two_put kept w a l i (first_no (eqb (get_or kept (a / 4096 + 32) 0) 1) (eqb (a % 4096) 4095) t) user mmu ds right p v
-      (second_no (eqb (get_or kept (a / 4096 + 32) 0) 1) (eqb (a % 4096) 4095) t) e
+  pub word_put : Lies kept (32 + a / 4096) a 2 p → (v : ℕ) → Writes kept (two_writes false a v) w (set (set w p (v % 256)) (p + 1) (v / 256))
+  word_put h v user mmu ds right =
+      let g = for_writes 2 h in
+      two_put kept w a l inside g.some user mmu ds right p v (ne_eqb (a % 4096) 4095 (λ n. omega (arith, g.room))) g.place

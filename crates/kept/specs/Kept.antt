@@ -3,6 +3,9 @@
 -- Seats 0 to 15 are for reads by data, 16 to 31 for reads by program, 32 to 47 for writes by data.
 use Rattle.std.specs.Prelude.{ℕ, ◌+◌, ◌*◌, ◌/◌, ◌%◌, ◌<◌, ◌≤◌, ◌≡◌, Bool, true, false, List, eqb, get_or, Ok}
 use Rattle.mmu.specs.Translate.{mode_bits, translating, number_of, translate}
+use Rattle.board.specs.Program as b
+use Rattle.bus.specs.Access.{got_many}
+use Rattle.bus.specs.Write.{Wrote}
 
 abbrev pub for_program : (k : ℕ) → Bool
 for_program k = eqb (k / 16) 1
@@ -23,6 +26,20 @@ Right kept user mmu ds = (k : ℕ) → k < 48 → eqb (get_or kept k 0) 1 ≡ fa
 -- each page that is kept lies in a memory of n bytes
 abbrev pub Inside : (kept : List ℕ) (n : ℕ) → Type 0
 Inside kept n = (k : ℕ) → k < 48 → eqb (get_or kept k 0) 1 ≡ false → get_or kept k 0 + 4096 ≤ n
+
+-- p is the place of the byte at a, in the page of seat k, which holds the n bytes from there
+pub record Lies (kept : List ℕ) (k a n p : ℕ) : Type 0 where
+  pub some : eqb (get_or kept k 0) 1 ≡ false
+  pub place : p ≡ get_or kept k 0 + a % 4096
+  pub room : a % 4096 + n ≤ 4096
+
+-- v is what a read of n bytes at a by data gives, wherever the table is right
+abbrev pub Reads : (kept w : List ℕ) (n a v : ℕ) → Type 0
+Reads kept w n a v = (user : Bool) (mmu : ℕ) (ds : List ℕ) → Right kept user mmu ds → got_many n user mmu ds w false a ≡ Ok v
+
+-- l is what the writes xs make of the memory w, wherever the table is right; they change no descriptor
+abbrev pub Writes : (kept : List ℕ) (xs : List b.Write) (w l : List ℕ) → Type 0
+Writes kept xs w l = (user : Bool) (mmu : ℕ) (ds : List ℕ) → Right kept user mmu ds → Wrote user mmu xs (Ok tt) ds w ds l
 
 -- What is known of the base e worked out for seat k, where it is one.
 pub record Entered (user : Bool) (mmu : ℕ) (ds : List ℕ) (size k e : ℕ) : Type 0 where

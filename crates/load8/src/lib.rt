@@ -52,6 +52,7 @@ pub fn ld_m_n(r: Regs, i: Ins, s: Spot) -> Done
     storing(r, s, low8(immediate(i)))
 }
 
+#[inline(always)]
 pub fn ld_r_r(r: Regs, i: Ins) -> Done
     ensures { result ≡ ld_r_r r i }
 {

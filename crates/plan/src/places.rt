@@ -6,6 +6,7 @@ use crate::kinds::{Ins, Spot, low8, low16, plus16};
 use decode::mode;
 use regs::Regs;
 
+#[inline(always)]
 pub fn data_at(n: u8, a: u16) -> Spot
     ensures { result ≡ data_at n a }
 {
@@ -34,6 +35,7 @@ pub fn is_met(r: Regs, i: Ins) -> bool
 }
 
 // RET cc.
+#[inline(always)]
 fn return_spot(u: bool, r: Regs, i: Ins) -> Spot
     ensures { result ≡ returning u r i }
 {
@@ -44,6 +46,7 @@ fn return_spot(u: bool, r: Regs, i: Ins) -> Spot
     data_at(0, r.sp(u))
 }
 
+#[inline(always)]
 pub fn spot_of(u: bool, r: Regs, i: Ins) -> Spot
     ensures { result ≡ spot_of u r i }
 {

@@ -1,7 +1,7 @@
 -- The loop of quick steps against `run`: what holds at its test, and a law for each way on and out, over plain values.
 use Prim.Native.Nat.{ℕ, ◌+◌, ◌≤◌, ◌<◌}
 use mathlib.Core.Path.{◌≡◌, refl, sym, ◌∙◌, ap}
-use mathlib.Core.Bool.{Bool, true, false}
+use mathlib.Core.Bool.{Bool}
 use mathlib.Core.List.{List}
 use native.Mathlib.Omega.{arith}
 use lib.ListN.{length}
@@ -18,10 +18,8 @@ use Rattle.cpu.specs.Program.{program}
 use Rattle.cpu.specs.Turns.{completed_turn}
 use Rattle.cpu.proofs.Ways.{turn_code}
 use Rattle.kept.specs.Kept.{Right, Inside}
-use Rattle.served.specs.declared.kinds.Acted.{Acted}
 use Rattle.served.specs.declared.kinds.Code.{Code}
-use Rattle.quick.specs.declared.kinds.Quick.{Quick}
-use Rattle.served.specs.Served.{before, Served}
+use Rattle.served.specs.Served.{before, Serves}
 
 -- a run of limit steps from r₀ and w₀ goes on from r and w after k of them, whatever machine the table is right for
 abbrev GoingOn : (limit : ℕ) (user : Bool) (kept : List ℕ) (r₀ : Regs) (w₀ : List ℕ) (r : Regs) (w : List ℕ) (k : ℕ) → Type 0
@@ -37,33 +35,21 @@ pub record Going (limit : ℕ) (user : Bool) (kept : List ℕ) (r₀ : Regs) (w�
 pub starts : (limit : ℕ) (user : Bool) (kept : List ℕ) (r : Regs) (w : List ℕ) → Inside kept (length w) → Going limit user kept r w r w 0
 starts limit user kept r w i = record { bound = omega arith; len = refl; inside = i; is = λ c mmu ds u R. runs.starts program limit (state_of r c mmu ds w) }
 
--- what a row of quick steps from a promises
-abbrev Row : (limit : ℕ) (user : Bool) (kept : List ℕ) (a : Regs) (w₀ : List ℕ) (x : Quick) (w : List ℕ) → Type 0
-Row limit user kept a w₀ x w = (x.steps ≤ limit) × GoingOn limit user kept a w₀ x.regs w x.steps
-
 module _ (limit : ℕ) (user : Bool) (kept : List ℕ) (r₀ : Regs) (w₀ : List ℕ) (r : Regs) (w : List ℕ) (k : ℕ) (g : Going limit user kept r₀ w₀ r w k) where
-  pub leaves : (a : Regs) (x : Quick) → r₀ ≡ a → x ≡ record { regs = r; steps = k } → Row limit user kept a w₀ x w
-  leaves a x d e = rw (← d, e) (g.bound, g.is)
-
-  module _ (d : Code) (x : Acted) (l : List ℕ) (q : Regs) (s : Served kept user r d w l x) (e : q ≡ x.regs) where
-    -- a step that was declined
-    pub declines : (a : Regs) (y : Quick) → r₀ ≡ a → x.known ≡ false → y ≡ record { regs = q; steps = k } → Row limit user kept a w₀ y l
-    declines a y i h p = rw (← i, p, e, s.keeps h, s.stays h) (g.bound, g.is)
-
-    -- a step that was done
-    pub again : ((user : Bool) (mmu : ℕ) (ds : List ℕ) → Right kept user mmu ds → lead_of user mmu ds w r.pc ≡ lead.code d.o d.b (before d w) d.at) →
-        x.known ≡ true → k < limit → length l ≡ length w → Going limit user kept r₀ w₀ q l (k + 1)
-    unfolding n.step event_of
-    again m h lt z =
-        rw e
-        (record {
-          bound = omega arith;
-          len = z ∙ g.len;
-          inside = rw z g.inside;
-          is = λ c mmu ds u R. runs.again program limit (state_of r₀ c mmu ds w₀) k (state_of r c mmu ds w) (state_of x.regs c mmu ds l) (g.is c mmu ds u R) lt (step c mmu ds u R);
-        })
-      where
-        step : (c : Control) (mmu : ℕ) (ds : List ℕ) → user ≡ user_of c → Right kept user mmu ds → record { state = state_of x.regs c mmu ds l; event = b.completed } ≡ n.step program (state_of r c mmu ds w)
-        step c mmu ds u R =
-            turn_code r c mmu ds w (record { opening = d.o; code = d.b; displacement = before d w; at = d.at }) (whole (completed_turn x.regs c mmu) ds l)
-            (sym (ap (λ z. lead_of z mmu ds w r.pc) u) ∙ m user mmu ds R) (s.does h c mmu ds u R)
+  -- a step that was done
+  pub again : (d : Code) (l : List ℕ) (q : Regs) → Serves kept user r d w l q →
+      ((user : Bool) (mmu : ℕ) (ds : List ℕ) → Right kept user mmu ds → lead_of user mmu ds w r.pc ≡ lead.code d.o d.b (before d w) d.at) →
+      k < limit → length l ≡ length w → Going limit user kept r₀ w₀ q l (k + 1)
+  unfolding n.step event_of
+  again d l q s m lt z =
+      record {
+        bound = omega arith;
+        len = z ∙ g.len;
+        inside = rw z g.inside;
+        is = λ c mmu ds u R. runs.again program limit (state_of r₀ c mmu ds w₀) k (state_of r c mmu ds w) (state_of q c mmu ds l) (g.is c mmu ds u R) lt (step c mmu ds u R);
+      }
+    where
+      step : (c : Control) (mmu : ℕ) (ds : List ℕ) → user ≡ user_of c → Right kept user mmu ds → record { state = state_of q c mmu ds l; event = b.completed } ≡ n.step program (state_of r c mmu ds w)
+      step c mmu ds u R =
+          turn_code r c mmu ds w (record { opening = d.o; code = d.b; displacement = before d w; at = d.at }) (whole (completed_turn q c mmu) ds l)
+          (sym (ap (λ z. lead_of z mmu ds w r.pc) u) ∙ m user mmu ds R) (s c mmu ds u R)

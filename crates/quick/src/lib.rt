@@ -1,6 +1,5 @@
-// Quick steps in a row: the step by its operation, the loop.
+// Quick steps in a row.
 #![tactic(auto)]
 
-mod act;
 pub mod kinds;
 pub mod turns;

@@ -1,8 +1,8 @@
 // Quick steps on words, block moves, and program control.
-#![tactic(auto)]
+#![tactic(auto, unfolding(execute::specs::Execute::execute_of, execute::specs::Execute::execute_by))]
 
 mod entry;
-pub mod on_arith16;
-pub mod on_block;
-pub mod on_jump;
+mod on_arith16;
+mod on_block;
+mod on_jump;
 pub mod on_load16;

@@ -4,242 +4,31 @@ ghost use Rattle.served.specs.Served.{Fetched, Served};
 use crate::entry::{
     CALL, CALL_CC, CCF, DJNZ, JP, JP_CC, JP_XX, JR, JR_CC, NOP, RET, RET_CC, RST, SCF,
 };
-use kept::access::{Found, word_at};
-use plan::kinds::low16;
-use plan::places::{data_at, is_met};
+use decode::op;
+use quickbits::on_bits;
 use regs::Regs;
-use served::kinds::{Acted, Code};
-use served::parts::{done, ins0, ins1, ins2, none};
-use served::store::put_word;
+use served::kinds::Given;
+use served::step::step;
 
-pub fn call(r: Regs, c: Code, u: bool, kept: &[u32; 48], w: &mut [u8]) -> Acted
-    requires { Fetched kept.now w.old c }
-    ensures { Served kept.now u r c w.old w.new result }
+pub fn act(g: Given, r: &mut Regs, w: &mut [u8]) -> Option<()>
+    requires { Fetched g.kept.now w.old g.c }
+    ensures { Served g.entry.kept.now g.entry.u r.old r.new g.entry.c w.old w.new result }
 {
-    let known = c.e == CALL;
-    if !known {
-        return none(r);
+    match decode::op_of(g.c.e) {
+        op::CALL => step(CALL, g, r, w, |t, i, s, _| jump::call(t, g.u, i, s)),
+        op::CALL_CC => step(CALL_CC, g, r, w, |t, i, s, _| jump::call_cc(t, g.u, i, s)),
+        op::CCF => step(CCF, g, r, w, |t, _, _, _| jump::ccf(t)),
+        op::DJNZ => step(DJNZ, g, r, w, |t, i, _, _| jump::djnz(t, i)),
+        op::JP => step(JP, g, r, w, |t, _, s, _| jump::jp(t, s)),
+        op::JP_CC => step(JP_CC, g, r, w, |t, i, s, _| jump::jp_cc(t, i, s)),
+        op::JP_XX => step(JP_XX, g, r, w, |t, i, _, _| jump::jp_xx(t, i)),
+        op::JR => step(JR, g, r, w, |t, i, _, _| jump::jr(t, i)),
+        op::JR_CC => step(JR_CC, g, r, w, |t, i, _, _| jump::jr_cc(t, i)),
+        op::RET => step(RET, g, r, w, |t, _, _, v| jump::ret(t, g.u, v)),
+        op::RET_CC => step(RET_CC, g, r, w, |t, i, _, v| jump::ret_cc(t, g.u, i, v)),
+        op::RST => step(RST, g, r, w, |t, i, _, _| jump::rst(t, g.u, i)),
+        op::SCF => step(SCF, g, r, w, |t, _, _, _| jump::scf(t)),
+        op::NOP => step(NOP, g, r, w, |t, _, _, _| jump::nop(t)),
+        _ => on_bits::act(g, r, w),
     }
-    let i = ins2(r, c, kept, w);
-    let s = data_at(0, low16(i.arg));
-    let d = jump::call(r.with_pc(i.next), u, i, s);
-    let m = d.write;
-    let stored = put_word(kept, w, m);
-    if !stored {
-        return none(r);
-    }
-    let q = d.regs;
-    done(q)
-}
-
-pub fn call_cc(r: Regs, c: Code, u: bool, kept: &[u32; 48], w: &mut [u8]) -> Acted
-    requires { Fetched kept.now w.old c }
-    ensures { Served kept.now u r c w.old w.new result }
-{
-    let known = c.e == CALL_CC;
-    if !known {
-        return none(r);
-    }
-    let i = ins2(r, c, kept, w);
-    let s = data_at(0, low16(i.arg));
-    let d = jump::call_cc(r.with_pc(i.next), u, i, s);
-    let m = d.write;
-    let stored = put_word(kept, w, m);
-    if !stored {
-        return none(r);
-    }
-    let q = d.regs;
-    done(q)
-}
-
-pub fn ccf(r: Regs, c: Code, u: bool, kept: &[u32; 48], w: &[u8]) -> Acted
-    requires { Fetched kept.now w.now c }
-    ensures { Served kept.now u r c w.now w.now result }
-{
-    let known = c.e == CCF;
-    if !known {
-        return none(r);
-    }
-    let i = ins0(r, c, kept, w);
-    let d = jump::ccf(r.with_pc(i.next));
-    let q = d.regs;
-    done(q)
-}
-
-pub fn djnz(r: Regs, c: Code, u: bool, kept: &[u32; 48], w: &[u8]) -> Acted
-    requires { Fetched kept.now w.now c }
-    ensures { Served kept.now u r c w.now w.now result }
-{
-    let known = c.e == DJNZ;
-    if !known {
-        return none(r);
-    }
-    let i = ins1(r, c, kept, w);
-    let d = jump::djnz(r.with_pc(i.next), i);
-    let q = d.regs;
-    done(q)
-}
-
-pub fn jp(r: Regs, c: Code, u: bool, kept: &[u32; 48], w: &[u8]) -> Acted
-    requires { Fetched kept.now w.now c }
-    ensures { Served kept.now u r c w.now w.now result }
-{
-    let known = c.e == JP;
-    if !known {
-        return none(r);
-    }
-    let i = ins2(r, c, kept, w);
-    let s = data_at(0, low16(i.arg));
-    let d = jump::jp(r.with_pc(i.next), s);
-    let q = d.regs;
-    done(q)
-}
-
-pub fn jp_cc(r: Regs, c: Code, u: bool, kept: &[u32; 48], w: &[u8]) -> Acted
-    requires { Fetched kept.now w.now c }
-    ensures { Served kept.now u r c w.now w.now result }
-{
-    let known = c.e == JP_CC;
-    if !known {
-        return none(r);
-    }
-    let i = ins2(r, c, kept, w);
-    let s = data_at(0, low16(i.arg));
-    let d = jump::jp_cc(r.with_pc(i.next), i, s);
-    let q = d.regs;
-    done(q)
-}
-
-pub fn jp_xx(r: Regs, c: Code, u: bool, kept: &[u32; 48], w: &[u8]) -> Acted
-    requires { Fetched kept.now w.now c }
-    ensures { Served kept.now u r c w.now w.now result }
-{
-    let known = c.e == JP_XX;
-    if !known {
-        return none(r);
-    }
-    let i = ins0(r, c, kept, w);
-    let d = jump::jp_xx(r.with_pc(i.next), i);
-    let q = d.regs;
-    done(q)
-}
-
-pub fn jr(r: Regs, c: Code, u: bool, kept: &[u32; 48], w: &[u8]) -> Acted
-    requires { Fetched kept.now w.now c }
-    ensures { Served kept.now u r c w.now w.now result }
-{
-    let known = c.e == JR;
-    if !known {
-        return none(r);
-    }
-    let i = ins1(r, c, kept, w);
-    let d = jump::jr(r.with_pc(i.next), i);
-    let q = d.regs;
-    done(q)
-}
-
-pub fn jr_cc(r: Regs, c: Code, u: bool, kept: &[u32; 48], w: &[u8]) -> Acted
-    requires { Fetched kept.now w.now c }
-    ensures { Served kept.now u r c w.now w.now result }
-{
-    let known = c.e == JR_CC;
-    if !known {
-        return none(r);
-    }
-    let i = ins1(r, c, kept, w);
-    let d = jump::jr_cc(r.with_pc(i.next), i);
-    let q = d.regs;
-    done(q)
-}
-
-pub fn ret(r: Regs, c: Code, u: bool, kept: &[u32; 48], w: &[u8]) -> Acted
-    requires { Fetched kept.now w.now c }
-    ensures { Served kept.now u r c w.now w.now result }
-{
-    let known = c.e == RET;
-    if !known {
-        return none(r);
-    }
-    let i = ins0(r, c, kept, w);
-    let s = data_at(2, r.sp(u));
-    let g = word_at(kept, w, s.a);
-    let Found::Is(v) = g else {
-        return none(r);
-    };
-    let d = jump::ret(r.with_pc(i.next), u, (v % 4294967296) as u32);
-    let q = d.regs;
-    done(q)
-}
-
-// Where the condition isn't met nothing is read.
-pub fn ret_cc(r: Regs, c: Code, u: bool, kept: &[u32; 48], w: &[u8]) -> Acted
-    requires { Fetched kept.now w.now c }
-    ensures { Served kept.now u r c w.now w.now result }
-{
-    let known = c.e == RET_CC;
-    if !known {
-        return none(r);
-    }
-    let i = ins0(r, c, kept, w);
-    let met = is_met(r, i);
-    if !met {
-        let d = jump::ret_cc(r.with_pc(i.next), u, i, 0);
-        let q = d.regs;
-        return done(q);
-    }
-    let s = data_at(2, r.sp(u));
-    let g = word_at(kept, w, s.a);
-    let Found::Is(v) = g else {
-        return none(r);
-    };
-    let d = jump::ret_cc(r.with_pc(i.next), u, i, (v % 4294967296) as u32);
-    let q = d.regs;
-    done(q)
-}
-
-pub fn rst(r: Regs, c: Code, u: bool, kept: &[u32; 48], w: &mut [u8]) -> Acted
-    requires { Fetched kept.now w.old c }
-    ensures { Served kept.now u r c w.old w.new result }
-{
-    let known = c.e == RST;
-    if !known {
-        return none(r);
-    }
-    let i = ins0(r, c, kept, w);
-    let d = jump::rst(r.with_pc(i.next), u, i);
-    let m = d.write;
-    let stored = put_word(kept, w, m);
-    if !stored {
-        return none(r);
-    }
-    let q = d.regs;
-    done(q)
-}
-
-pub fn scf(r: Regs, c: Code, u: bool, kept: &[u32; 48], w: &[u8]) -> Acted
-    requires { Fetched kept.now w.now c }
-    ensures { Served kept.now u r c w.now w.now result }
-{
-    let known = c.e == SCF;
-    if !known {
-        return none(r);
-    }
-    let i = ins0(r, c, kept, w);
-    let d = jump::scf(r.with_pc(i.next));
-    let q = d.regs;
-    done(q)
-}
-
-pub fn nop(r: Regs, c: Code, u: bool, kept: &[u32; 48], w: &[u8]) -> Acted
-    requires { Fetched kept.now w.now c }
-    ensures { Served kept.now u r c w.now w.now result }
-{
-    let known = c.e == NOP;
-    if !known {
-        return none(r);
-    }
-    let i = ins0(r, c, kept, w);
-    let d = jump::nop(r.with_pc(i.next));
-    let q = d.regs;
-    done(q)
 }

@@ -4,192 +4,28 @@ ghost use Rattle.served.specs.Served.{Fetched, Served};
 use crate::entry::{
     EX_DE_HL, EX_SP, LD_DA_RR, LD_DA_XX, LD_RR_DA, LD_RR_NN, LD_SP_XX, LD_XX_DA, POP_RR, PUSH_RR,
 };
-use kept::access::{Found, word_at};
-use plan::kinds::low16;
-use plan::places::data_at;
+use crate::on_block;
+use decode::op;
+use load16::{exchange, stack, word};
 use regs::Regs;
-use served::kinds::{Acted, Code};
-use served::parts::{done, ins0, ins2, none};
-use served::store::put_word;
+use served::kinds::Given;
+use served::step::step;
 
-pub fn ex_de_hl(r: Regs, c: Code, u: bool, kept: &[u32; 48], w: &[u8]) -> Acted
-    requires { Fetched kept.now w.now c }
-    ensures { Served kept.now u r c w.now w.now result }
+pub fn act(g: Given, r: &mut Regs, w: &mut [u8]) -> Option<()>
+    requires { Fetched g.kept.now w.old g.c }
+    ensures { Served g.entry.kept.now g.entry.u r.old r.new g.entry.c w.old w.new result }
 {
-    let known = c.e == EX_DE_HL;
-    if !known {
-        return none(r);
+    match decode::op_of(g.c.e) {
+        op::EX_DE_HL => step(EX_DE_HL, g, r, w, |t, _, _, _| exchange::ex_de_hl(t)),
+        op::EX_SP => step(EX_SP, g, r, w, |t, i, s, v| exchange::ex_sp(t, i, s, v)),
+        op::LD_XX_M => step(LD_XX_DA, g, r, w, |t, i, _, v| word::ld_xx_m(t, i, v)),
+        op::LD_M_XX => step(LD_DA_XX, g, r, w, |t, i, s, _| word::ld_m_xx(t, i, s)),
+        op::LD_RR_NN => step(LD_RR_NN, g, r, w, |t, i, _, _| word::ld_rr_nn(t, g.u, i)),
+        op::LD_RR_M => step(LD_RR_DA, g, r, w, |t, i, _, v| word::ld_rr_m(t, g.u, i, v)),
+        op::LD_M_RR => step(LD_DA_RR, g, r, w, |t, i, s, _| word::ld_m_rr(t, g.u, i, s)),
+        op::LD_SP_XX => step(LD_SP_XX, g, r, w, |t, i, _, _| word::ld_sp_xx(t, g.u, i)),
+        op::POP_RR => step(POP_RR, g, r, w, |t, i, _, v| stack::pop_rr(t, g.u, i, v)),
+        op::PUSH_RR => step(PUSH_RR, g, r, w, |t, i, _, _| stack::push_rr(t, g.u, i)),
+        _ => on_block::act(g, r, w),
     }
-    let i = ins0(r, c, kept, w);
-    let d = load16::exchange::ex_de_hl(r.with_pc(i.next));
-    let q = d.regs;
-    done(q)
-}
-
-pub fn ex_sp(r: Regs, c: Code, u: bool, kept: &[u32; 48], w: &mut [u8]) -> Acted
-    requires { Fetched kept.now w.old c }
-    ensures { Served kept.now u r c w.old w.new result }
-{
-    let known = c.e == EX_SP;
-    if !known {
-        return none(r);
-    }
-    let i = ins0(r, c, kept, w);
-    let s = data_at(2, r.sp(u));
-    let g = word_at(kept, w, s.a);
-    let Found::Is(v) = g else {
-        return none(r);
-    };
-    let d = load16::exchange::ex_sp(r.with_pc(i.next), i, s, (v % 4294967296) as u32);
-    let m = d.write;
-    let stored = put_word(kept, w, m);
-    if !stored {
-        return none(r);
-    }
-    let q = d.regs;
-    done(q)
-}
-
-pub fn ld_xx_da(r: Regs, c: Code, u: bool, kept: &[u32; 48], w: &[u8]) -> Acted
-    requires { Fetched kept.now w.now c }
-    ensures { Served kept.now u r c w.now w.now result }
-{
-    let known = c.e == LD_XX_DA;
-    if !known {
-        return none(r);
-    }
-    let i = ins2(r, c, kept, w);
-    let s = data_at(2, low16(i.arg));
-    let g = word_at(kept, w, s.a);
-    let Found::Is(v) = g else {
-        return none(r);
-    };
-    let d = load16::word::ld_xx_m(r.with_pc(i.next), i, (v % 4294967296) as u32);
-    let q = d.regs;
-    done(q)
-}
-
-pub fn ld_da_xx(r: Regs, c: Code, u: bool, kept: &[u32; 48], w: &mut [u8]) -> Acted
-    requires { Fetched kept.now w.old c }
-    ensures { Served kept.now u r c w.old w.new result }
-{
-    let known = c.e == LD_DA_XX;
-    if !known {
-        return none(r);
-    }
-    let i = ins2(r, c, kept, w);
-    let s = data_at(0, low16(i.arg));
-    let d = load16::word::ld_m_xx(r.with_pc(i.next), i, s);
-    let m = d.write;
-    let stored = put_word(kept, w, m);
-    if !stored {
-        return none(r);
-    }
-    let q = d.regs;
-    done(q)
-}
-
-pub fn ld_rr_nn(r: Regs, c: Code, u: bool, kept: &[u32; 48], w: &[u8]) -> Acted
-    requires { Fetched kept.now w.now c }
-    ensures { Served kept.now u r c w.now w.now result }
-{
-    let known = c.e == LD_RR_NN;
-    if !known {
-        return none(r);
-    }
-    let i = ins2(r, c, kept, w);
-    let d = load16::word::ld_rr_nn(r.with_pc(i.next), u, i);
-    let q = d.regs;
-    done(q)
-}
-
-pub fn ld_rr_da(r: Regs, c: Code, u: bool, kept: &[u32; 48], w: &[u8]) -> Acted
-    requires { Fetched kept.now w.now c }
-    ensures { Served kept.now u r c w.now w.now result }
-{
-    let known = c.e == LD_RR_DA;
-    if !known {
-        return none(r);
-    }
-    let i = ins2(r, c, kept, w);
-    let s = data_at(2, low16(i.arg));
-    let g = word_at(kept, w, s.a);
-    let Found::Is(v) = g else {
-        return none(r);
-    };
-    let d = load16::word::ld_rr_m(r.with_pc(i.next), u, i, (v % 4294967296) as u32);
-    let q = d.regs;
-    done(q)
-}
-
-pub fn ld_da_rr(r: Regs, c: Code, u: bool, kept: &[u32; 48], w: &mut [u8]) -> Acted
-    requires { Fetched kept.now w.old c }
-    ensures { Served kept.now u r c w.old w.new result }
-{
-    let known = c.e == LD_DA_RR;
-    if !known {
-        return none(r);
-    }
-    let i = ins2(r, c, kept, w);
-    let s = data_at(0, low16(i.arg));
-    let d = load16::word::ld_m_rr(r.with_pc(i.next), u, i, s);
-    let m = d.write;
-    let stored = put_word(kept, w, m);
-    if !stored {
-        return none(r);
-    }
-    let q = d.regs;
-    done(q)
-}
-
-pub fn ld_sp_xx(r: Regs, c: Code, u: bool, kept: &[u32; 48], w: &[u8]) -> Acted
-    requires { Fetched kept.now w.now c }
-    ensures { Served kept.now u r c w.now w.now result }
-{
-    let known = c.e == LD_SP_XX;
-    if !known {
-        return none(r);
-    }
-    let i = ins0(r, c, kept, w);
-    let d = load16::word::ld_sp_xx(r.with_pc(i.next), u, i);
-    let q = d.regs;
-    done(q)
-}
-
-pub fn pop_rr(r: Regs, c: Code, u: bool, kept: &[u32; 48], w: &[u8]) -> Acted
-    requires { Fetched kept.now w.now c }
-    ensures { Served kept.now u r c w.now w.now result }
-{
-    let known = c.e == POP_RR;
-    if !known {
-        return none(r);
-    }
-    let i = ins0(r, c, kept, w);
-    let s = data_at(2, r.sp(u));
-    let g = word_at(kept, w, s.a);
-    let Found::Is(v) = g else {
-        return none(r);
-    };
-    let d = load16::stack::pop_rr(r.with_pc(i.next), u, i, (v % 4294967296) as u32);
-    let q = d.regs;
-    done(q)
-}
-
-pub fn push_rr(r: Regs, c: Code, u: bool, kept: &[u32; 48], w: &mut [u8]) -> Acted
-    requires { Fetched kept.now w.old c }
-    ensures { Served kept.now u r c w.old w.new result }
-{
-    let known = c.e == PUSH_RR;
-    if !known {
-        return none(r);
-    }
-    let i = ins0(r, c, kept, w);
-    let d = load16::stack::push_rr(r.with_pc(i.next), u, i);
-    let m = d.write;
-    let stored = put_word(kept, w, m);
-    if !stored {
-        return none(r);
-    }
-    let q = d.regs;
-    done(q)
 }

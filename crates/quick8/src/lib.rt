@@ -1,7 +1,6 @@
 // Quick steps on bytes: loads, arithmetic and logic.
-#![tactic(auto)]
+#![tactic(auto, unfolding(execute::specs::Execute::execute_of, execute::specs::Execute::execute_by))]
 
 mod entry;
-pub mod on_arith8;
+mod on_arith8;
 pub mod on_load8;
-mod own;

@@ -1,6 +1,5 @@
 // Quick steps on single bits, rotates and shifts.
-#![tactic(auto)]
+#![tactic(auto, unfolding(execute::specs::Execute::execute_of, execute::specs::Execute::execute_by))]
 
 mod entry;
 pub mod on_bits;
-mod own;

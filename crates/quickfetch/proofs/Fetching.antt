@@ -1,12 +1,11 @@
 -- The quick fetch is the fetch: a law for each way out of its functions, over plain values.
 use Prim.Native.Nat.{ℕ, ◌+◌, ◌-◌, ◌/◌, ◌%◌, ◌≤◌, ◌<◌}
-use Rattle.std.specs.Prelude.{Result}
 use mathlib.Core.Path.{◌≡◌, refl, sym, ◌∙◌, ap}
-use mathlib.Core.Bool.{Bool, true, false, cond, ◌||◌}
+use mathlib.Core.Bool.{Bool, true, false, cond}
 use mathlib.Core.List.{List}
 use native.Mathlib.Omega.{arith}
 use native.Mathlib.Nat.{add-zero}
-use borrow.Author.Tests.{eqb-true, ltb-true, ltb-false, ne_eqb}
+use borrow.Author.Tests.{eqb-true, ltb-true, ne_eqb}
 use lib.Dec.{eqb, ltb}
 use lib.ListN.{length, get_or}
 use Rattle.decode.specs.Opening.{opening_of, after_opening, entered}
@@ -18,11 +17,12 @@ use Rattle.board.specs.declared.Fault.{Fault}
 use Rattle.cpu.specs.Lead as lead
 use Rattle.cpu.specs.Lead.{lead_by, lead_fourth, lead_third, lead_second, lead_first, lead_of}
 use Rattle.cpu.proofs.Leads.{opens_nothing}
-use Rattle.kept.specs.Kept.{Right, Inside}
+use Rattle.kept.specs.Kept.{Right}
 use Rattle.kept.proofs.Kept.{not_both}
-use Rattle.quickfetch.specs.declared.Fetch.{Fetch}
-use Rattle.served.specs.Served.{Stands, before}
-use Rattle.quickfetch.specs.Fetch.{Site, Leads}
+use Rattle.std.specs.Prelude.{Option, Some, None, Result}
+use Rattle.served.specs.declared.kinds.Code.{Code}
+use Rattle.served.specs.Served.{Stands}
+use Rattle.quickfetch.specs.Fetch.{IsSite, Leads}
 use Rattle.served.proofs.Bytes.{one}
 
 -- ── openings ──
@@ -61,14 +61,12 @@ opening_small o b e = rw e (small_of (eqb b 0xCB) (eqb b 0xED) (eqb b 0xDD) (eqb
 abbrev pub LeadBy : Type 0
 LeadBy = (user : Bool) (mmu : ℕ) (ds : List ℕ) → Result Lead Fault
 
-pub unknown : (kept w : List ℕ) (l : LeadBy) (x : Fetch) → x.known ≡ false → Leads kept w l x
-unknown kept w l x h = record { fetched = λ k. absurd (not_both (sym k ∙ h)); is = λ k. absurd (not_both (sym k ∙ h)) }
-
-pub passes : (kept w : List ℕ) (l m : LeadBy) (x : Fetch) → Leads kept w l x → ((user : Bool) (mmu : ℕ) (ds : List ℕ) → Right kept user mmu ds → m user mmu ds ≡ l user mmu ds) →
+pub passes : (kept w : List ℕ) (l m : LeadBy) (x : Option Code) → Leads kept w l x → ((user : Bool) (mmu : ℕ) (ds : List ℕ) → Right kept user mmu ds → m user mmu ds ≡ l user mmu ds) →
     Leads kept w m x
-passes kept w l m x s h = record { fetched = s.fetched; is = λ k user mmu ds R. h user mmu ds R ∙ s.is k user mmu ds R }
+passes kept w l m None s h = s
+passes kept w l m (Some q) s h = (s.0, λ user mmu ds R. h user mmu ds R ∙ s.1 user mmu ds R)
 
-module _ (kept w : List ℕ) (pc p : ℕ) (S : Site kept w pc p) where
+module _ (kept w : List ℕ) (pc p : ℕ) (S : IsSite kept w pc p) where
   pub reach : (j : ℕ) → j ≤ 4 → p + j < length w
   reach j h =
       let i : get_or kept (16 + pc / 4096) 0 + 4096 ≤ length w = S.inside (16 + pc / 4096) (omega (arith, S.page)) S.some in
@@ -95,15 +93,11 @@ module _ (kept w : List ℕ) (pc p : ℕ) (S : Site kept w pc p) where
   following : (j : ℕ) → j ≤ 4 → next (pc + j) ≡ pc + (j + 1)
   following j h = omega (arith, S.room, S.page)
 
-  known : (l : LeadBy) (x : Fetch) (e o b j : ℕ) → x ≡ record { known = true; code = record { e = e; o = o; b = b; at = pc + j; p = p + j } } → j ≤ 4 →
+  known : (l : LeadBy) (x : Option Code) (e o b j : ℕ) → x ≡ Some (record { e = e; o = o; b = b; at = pc + j; p = p + j }) → j ≤ 4 →
       e ≡ entered o b → (ltb 4 o ≡ true → 2 ≤ j) →
       ((user : Bool) (mmu : ℕ) (ds : List ℕ) → Right kept user mmu ds → l user mmu ds ≡ lead.code o b (cond (ltb 4 o) (get_or w (p + j - 2) 0) 0) (pc + j)) → Leads kept w l x
-  unfolding before
   known l x e o b j ex h ee hb hl =
-      record {
-        fetched = λ k. rw ex (record { inside = S.inside; entry = ee; stands = stands j h; back = λ t. omega (arith, hb t) });
-        is = λ k user mmu ds R. rw ex (hl user mmu ds R);
-      }
+      rw ex (record { inside = S.inside; entry = ee; stands = stands j h; back = λ t. omega (arith, hb t) }, hl)
 
   module _ (user : Bool) (mmu : ℕ) (ds : List ℕ) (R : Right kept user mmu ds) where
     by_byte : (j : ℕ) → j ≤ 4 → (f : ℕ → Result Lead Fault) → lead_by (read_from user mmu ds w true (pc + j)) f ≡ f (get_or w (p + j) 0)
@@ -112,7 +106,7 @@ module _ (kept w : List ℕ) (pc p : ℕ) (S : Site kept w pc p) where
 
   -- ── the fourth byte ──
 
-  module _ (o b : ℕ) (h7 : ltb o 7 ≡ true) (h4 : ltb 4 o ≡ true) (hb : b ≡ get_or w (p + 3) 0) (lb : b < 256) (ld : get_or w (p + 2) 0 < 256) where
+  module _ (o b : ℕ) (h7 : ltb o 7 ≡ true) (h4 : ltb 4 o ≡ true) (hb : b ≡ get_or w (p + 3) 0) (lb : b < 256) where
     third_is : (user : Bool) (mmu : ℕ) (ds : List ℕ) → Right kept user mmu ds → lead_third user mmu ds w (pc + 2) o ≡ lead.code o b (cond (ltb 4 o) (get_or w (p + 4 - 2) 0) 0) (pc + 4)
     unfolding lead_third lead_fourth
     third_is user mmu ds R =
@@ -123,18 +117,18 @@ module _ (kept w : List ℕ) (pc p : ℕ) (S : Site kept w pc p) where
         tops = omega arith
 
         drops : get_or w (p + 2) 0 % 256 ≡ get_or w (p + 2) 0
-        drops = omega arith
+        drops = omega (arith, S.bytes (p + 2))
 
         back : p + 4 - 2 ≡ p + 2
         back = omega arith
 
-    pub at_fourth : (e : ℕ) (x : Fetch) → e ≡ entered o b → x ≡ record { known = true; code = record { e = e; o = o; b = b; at = pc + 4; p = p + 4 } } →
+    pub at_fourth : (e : ℕ) (x : Option Code) → e ≡ entered o b → x ≡ Some (record { e = e; o = o; b = b; at = pc + 4; p = p + 4 }) →
         Leads kept w (λ user mmu ds. lead_third user mmu ds w (pc + 2) o) x
     at_fourth e x ee ex = known (λ user mmu ds. lead_third user mmu ds w (pc + 2) o) x e o b 4 ex (omega arith) ee (λ t. omega arith) third_is
 
   -- ── two opening bytes ──
 
-  pub at_third : (o b n : ℕ) (x : Fetch) → n ≡ after_opening o b → ltb 4 n ≡ true → Leads kept w (λ user mmu ds. lead_third user mmu ds w (pc + 2) n) x →
+  pub at_third : (o b n : ℕ) (x : Option Code) → n ≡ after_opening o b → ltb 4 n ≡ true → Leads kept w (λ user mmu ds. lead_third user mmu ds w (pc + 2) n) x →
       Leads kept w (λ user mmu ds. lead_second user mmu ds w (pc + 2) o b) x
   unfolding lead_second
   at_third o b n x e h s = passes kept w _ (λ user mmu ds. lead_second user mmu ds w (pc + 2) o b) x s (λ user mmu ds R. rw (← e, some))
@@ -142,15 +136,15 @@ module _ (kept w : List ℕ) (pc p : ℕ) (S : Site kept w pc p) where
       some : eqb n 0 ≡ false
       some = ne_eqb n 0 (λ z. omega (arith, ltb-true 4 n h))
 
-  pub at_second : (o b e : ℕ) (x : Fetch) → ltb 4 o ≡ false → e ≡ entered o b → ltb e 12288 ≡ false →
-      x ≡ record { known = true; code = record { e = e; o = o; b = b; at = pc + 2; p = p + 2 } } → Leads kept w (λ user mmu ds. lead_second user mmu ds w (pc + 2) o b) x
+  pub at_second : (o b e : ℕ) (x : Option Code) → ltb 4 o ≡ false → e ≡ entered o b → ltb e 12288 ≡ false →
+      x ≡ Some (record { e = e; o = o; b = b; at = pc + 2; p = p + 2 }) → Leads kept w (λ user mmu ds. lead_second user mmu ds w (pc + 2) o b) x
   unfolding lead_second
   at_second o b e x h ee f ex =
       known (λ user mmu ds. lead_second user mmu ds w (pc + 2) o b) x e o b 2 ex (omega arith) ee (λ t. omega arith) (λ user mmu ds R. rw (opens_none o b (rw ee at f), h))
 
   -- ── the first byte ──
 
-  pub at_opened : (b o k : ℕ) (x : Fetch) → o ≡ opening_of b → eqb o 0 ≡ false → k ≡ get_or w (p + 1) 0 → k < 256 →
+  pub at_opened : (b o k : ℕ) (x : Option Code) → o ≡ opening_of b → eqb o 0 ≡ false → k ≡ get_or w (p + 1) 0 → k < 256 →
       Leads kept w (λ user mmu ds. lead_second user mmu ds w (pc + 2) o k) x → Leads kept w (λ user mmu ds. lead_first user mmu ds w (pc + 1) b) x
   unfolding lead_first
   at_opened b o k x e h hk lk s =
@@ -160,13 +154,13 @@ module _ (kept w : List ℕ) (pc p : ℕ) (S : Site kept w pc p) where
       tops : k % 256 ≡ k
       tops = omega arith
 
-  module _ (b : ℕ) (hb : b ≡ get_or w p 0) (lb : b < 256) where
+  module _ (b : ℕ) (hb : b ≡ get_or w (p + 0) 0) (lb : b < 256) where
     first_is : (user : Bool) (mmu : ℕ) (ds : List ℕ) → Right kept user mmu ds → lead_of user mmu ds w pc ≡ lead_first user mmu ds w (pc + 1) b
     unfolding lead_of
     first_is user mmu ds R = ap (λ a. lead_by (read_from user mmu ds w true a) (λ b. lead_first user mmu ds w (next pc) (b % 256))) (sym (add-zero pc)) ∙ by_byte user mmu ds R 0 (omega arith) _ ∙ rw (here, tops, after)
       where
         here : get_or w (p + 0) 0 ≡ b
-        here = ap (λ z. get_or w z 0) (add-zero p) ∙ sym hb
+        here = sym hb
 
         tops : b % 256 ≡ b
         tops = omega arith
@@ -174,23 +168,11 @@ module _ (kept w : List ℕ) (pc p : ℕ) (S : Site kept w pc p) where
         after : next pc ≡ pc + 1
         after = omega (arith, S.room, S.page)
 
-    pub at_opening : (x : Fetch) → Leads kept w (λ user mmu ds. lead_first user mmu ds w (pc + 1) b) x → Leads kept w (λ user mmu ds. lead_of user mmu ds w pc) x
+    pub at_opening : (x : Option Code) → Leads kept w (λ user mmu ds. lead_first user mmu ds w (pc + 1) b) x → Leads kept w (λ user mmu ds. lead_of user mmu ds w pc) x
     at_opening x s = passes kept w _ (λ user mmu ds. lead_of user mmu ds w pc) x s first_is
 
-    pub at_first : (e : ℕ) (x : Fetch) → e ≡ entered 0 b → ltb e 12288 ≡ false → x ≡ record { known = true; code = record { e = e; o = 0; b = b; at = pc + 1; p = p + 1 } } →
+    pub at_first : (e : ℕ) (x : Option Code) → e ≡ entered 0 b → ltb e 12288 ≡ false → x ≡ Some (record { e = e; o = 0; b = b; at = pc + 1; p = p + 1 }) →
         Leads kept w (λ user mmu ds. lead_of user mmu ds w pc) x
     at_first e x ee f ex =
         known (λ user mmu ds. lead_of user mmu ds w pc) x e 0 b 1 ex (omega arith) ee (λ t. absurd (not_both (sym t)))
         (λ user mmu ds R. first_is user mmu ds R ∙ sym (opens_nothing b e ee f user mmu ds w (pc + 1)))
-
--- ── the page ──
-
-neither : (s t : Bool) → (s || t) ≡ false → (s ≡ false) × (t ≡ false)
-neither true t h = absurd (not_both h)
-neither false t h = (refl, h)
-
-pub site : (kept w : List ℕ) (pc p : ℕ) → pc < 65536 → Inside kept (length w) → (eqb (get_or kept (16 + pc / 4096) 0) 1 || ltb 4080 (pc % 4096)) ≡ false →
-    p ≡ get_or kept (16 + pc / 4096) 0 + pc % 4096 → Site kept w pc p
-site kept w pc p h i g e =
-    let n : (eqb (get_or kept (16 + pc / 4096) 0) 1 ≡ false) × (ltb 4080 (pc % 4096) ≡ false) = neither (eqb (get_or kept (16 + pc / 4096) 0) 1) (ltb 4080 (pc % 4096)) g in
-    record { inside = i; some = n.0; place = e; room = ltb-false 4080 (pc % 4096) n.1; page = omega arith }

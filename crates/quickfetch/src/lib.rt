@@ -1,125 +1,110 @@
 // Stage 1 up to the operation code, by kept places: where the page isn't kept, or an instruction might leave it, nothing is known.
 #![tactic(auto)]
 
-ghost use Rattle.std.specs.Prelude.{◌≡◌, Bool, true, false, List, ℕ, ◌+◌, ◌%◌, ◌<◌, ltb, length, get_or};
-ghost use Rattle.cpu.specs.Lead as lead;
+ghost use Rattle.std.specs.Prelude.{◌≡◌, Bool, true, false, List, ℕ, ◌+◌, ◌≤◌, ltb, length, get_or, Some, IfSome};
 ghost use Rattle.cpu.specs.Lead.{lead_third, lead_second, lead_first, lead_of};
+ghost use Rattle.cpu.specs.Lead as lead;
 ghost use Rattle.kept.specs.Kept.{Right, Inside};
 ghost use Rattle.served.specs.Served.{Fetched, before};
-ghost use Rattle.quickfetch.specs.Fetch.{Site, Leads};
+ghost use Rattle.quickfetch.specs.Fetch.{IsSite, Leads};
 
 use decode::Tables;
+use kept::access::place_of;
 use served::kinds::Code;
 
-// A code; where it isn't known, none.
+// Where an instruction stands: its address pc, and the place p of its first byte.
 #[derive(Clone, Copy)]
-pub struct Fetch {
-    pub known: bool,
-    pub code: Code,
+struct Site<'a> {
+    kept: &'a [u32; 48],
+    w: &'a [u8],
+    t: &'a Tables,
+    pc: u16,
+    p: usize,
+    ghost is_site: { IsSite kept.now w.now pc p },
 }
 
-fn code(e: u16, o: u8, b: u8, at: u16, p: usize) -> Fetch
-    ensures { result ≡ record { known = true; code = record { e = e; o = o; b = b; at = at; p = p } } }
-{
-    let code = Code { e, o, b, at, p };
-    Fetch { known: true, code }
-}
+impl Site<'_> {
+    #[inline(always)]
+    fn byte(&self, j: u8) -> u8
+        requires { j ≤ 4 }
+        ensures { result ≡ get_or self.now.w.now (self.now.p + j) 0 }
+    {
+        self.w[self.p + j as usize]
+    }
 
-fn none() -> Fetch
-    ensures { result.known ≡ false }
-{
-    let code = Code {
-        e: 0,
-        o: 0,
-        b: 0,
-        at: 0,
-        p: 0,
-    };
-    Fetch { known: false, code }
-}
+    // The code whose operation code b is the last of j bytes.
+    #[inline(always)]
+    fn code(&self, e: u16, o: u8, b: u8, j: u8) -> Option<Code>
+        requires { j ≤ 4 }
+        ensures { result ≡ Some (record { e = e; o = o; b = b; at = self.now.pc + j; p = self.now.p + j }) }
+    {
+        Some(Code {
+            e,
+            o,
+            b,
+            at: self.pc + j as u16,
+            p: self.p + j as usize,
+        })
+    }
 
-fn fourth(kept: &[u32; 48], w: &[u8], t: &Tables, pc: u16, p: usize, o: u8, b: u8) -> Fetch
-    requires site { Site kept.now w.now pc p }
-    requires o_value { ltb o 7 ≡ true }
-    requires o_value_2 { ltb 4 o ≡ true }
-    requires b_value { b ≡ get_or w.now (p + 3) 0 }
-    requires p_bound { get_or w.now (p + 2) 0 < 256 }
-    ensures { Leads kept.now w.now (λ user mmu ds. lead_third user mmu ds w.now (pc + 2) o) result }
-{
-    code(t.entry(o, b), o, b, pc + 4, p + 4)
-}
+    fn fourth(&self, o: u8) -> Option<Code>
+        requires o_value { ltb o 7 ≡ true }
+        requires o_value_2 { ltb 4 o ≡ true }
+        ensures { Leads self.now.kept.now self.now.w.now (λ user mmu ds. lead_third user mmu ds self.now.w.now (self.now.pc + 2) o) result }
+    {
+        let b = self.byte(3);
+        self.code(self.t.entry(o, b), o, b, 4)
+    }
 
-// A second byte that isn't an operation from 24 on: after DD and FD it may be CB, with a displacement before the operation code.
-fn third(kept: &[u32; 48], w: &[u8], t: &Tables, pc: u16, p: usize, o: u8, b: u8) -> Fetch
-    requires site { Site kept.now w.now pc p }
-    ensures { Leads kept.now w.now (λ user mmu ds. lead_second user mmu ds w.now (pc + 2) o b) result }
-{
-    let n = decode::after_opening(o, b);
-    let small = n < 7;
-    let large = n > 4;
-    if small {
-        if large {
-            return fourth(kept, w, t, pc, p, n, w[p + 3]);
+    // A second byte that isn't an operation from 24 on: after DD and FD it may be CB, with a displacement before the operation code.
+    fn third(&self, o: u8, b: u8) -> Option<Code>
+        ensures { Leads self.now.kept.now self.now.w.now (λ user mmu ds. lead_second user mmu ds self.now.w.now (self.now.pc + 2) o b) result }
+    {
+        match decode::after_opening(o, b) {
+            n @ (5 | 6) => self.fourth(n),
+            _ => None,
         }
     }
-    none()
-}
 
-fn second(kept: &[u32; 48], w: &[u8], t: &Tables, pc: u16, p: usize, o: u8, b: u8) -> Fetch
-    requires site { Site kept.now w.now pc p }
-    requires o_value { ltb 4 o ≡ false }
-    ensures { Leads kept.now w.now (λ user mmu ds. lead_second user mmu ds w.now (pc + 2) o b) result }
-{
-    let e = t.entry(o, b);
-    let opens = e < 12288;
-    if opens {
-        return third(kept, w, t, pc, p, o, b);
+    fn second(&self, o: u8, b: u8) -> Option<Code>
+        requires { ltb 4 o ≡ false }
+        ensures { Leads self.now.kept.now self.now.w.now (λ user mmu ds. lead_second user mmu ds self.now.w.now (self.now.pc + 2) o b) result }
+    {
+        let e = self.t.entry(o, b);
+        if e < 12288 {
+            return self.third(o, b);
+        }
+        self.code(e, o, b, 2)
     }
-    code(e, o, b, pc + 2, p + 2)
-}
 
-fn opened(kept: &[u32; 48], w: &[u8], t: &Tables, pc: u16, p: usize, b: u8) -> Fetch
-    requires site { Site kept.now w.now pc p }
-    ensures { Leads kept.now w.now (λ user mmu ds. lead_first user mmu ds w.now (pc + 1) b) result }
-{
-    let o = decode::opening_of(b);
-    let plain = o == 0;
-    if plain {
-        return none();
+    fn opened(&self, b: u8) -> Option<Code>
+        ensures { Leads self.now.kept.now self.now.w.now (λ user mmu ds. lead_first user mmu ds self.now.w.now (self.now.pc + 1) b) result }
+    {
+        let o = decode::opening_of(b);
+        if o == 0 {
+            return None;
+        }
+        self.second(o, self.byte(1))
     }
-    second(kept, w, t, pc, p, o, w[p + 1])
-}
 
-// A byte whose entry is an operation from 24 on opens nothing: the usual case, by one test.
-fn first(kept: &[u32; 48], w: &[u8], t: &Tables, pc: u16, p: usize, b: u8) -> Fetch
-    requires site { Site kept.now w.now pc p }
-    requires b_value { b ≡ get_or w.now p 0 }
-    ensures { Leads kept.now w.now (λ user mmu ds. lead_of user mmu ds w.now pc) result }
-{
-    let e = t.entry(0, b);
-    let opens = e < 12288;
-    if opens {
-        return opened(kept, w, t, pc, p, b);
+    // A byte whose entry is an operation from 24 on opens nothing: the usual case, by one test.
+    fn first(&self) -> Option<Code>
+        ensures { Leads self.now.kept.now self.now.w.now (λ user mmu ds. lead_of user mmu ds self.now.w.now self.now.pc) result }
+    {
+        let b = self.byte(0);
+        let e = self.t.entry(0, b);
+        if e < 12288 {
+            return self.opened(b);
+        }
+        self.code(e, 0, b, 1)
     }
-    code(e, 0, b, pc + 1, p + 1)
 }
 
-fn place(base: u32, pc: u16) -> usize
-    ensures { result ≡ base + pc % 4096 }
-{
-    base as usize + (pc % 4096) as usize
-}
-
-pub fn code_at(kept: &[u32; 48], w: &[u8], t: &Tables, pc: u16) -> Fetch
+pub fn code_at(kept: &[u32; 48], w: &[u8], t: &Tables, pc: u16) -> Option<Code>
     requires inside { Inside kept.now (length w.now) }
-    ensures fetched { result.known ≡ true → Fetched kept.now w.now result.code }
-    ensures pc_value { result.known ≡ true → (user : Bool) (mmu : ℕ) (ds : List ℕ) → Right kept.now user mmu ds → lead_of user mmu ds w.now pc ≡ lead.code result.code.o result.code.b (before result.code w.now) result.code.at }
+    ensures fetched { IfSome result (λ q. Fetched kept.now w.now q) }
+    ensures pc_value { IfSome result (λ q. (user : Bool) (mmu : ℕ) (ds : List ℕ) → Right kept.now user mmu ds → lead_of user mmu ds w.now pc ≡ lead.code q.o q.b (before q w.now) q.at) }
 {
-    let base = kept[16 + (pc / 4096) as usize];
-    let gone = (base == 1) | (pc % 4096 > 4080);
-    if gone {
-        return none();
-    }
-    let p = place(base, pc);
-    first(kept, w, t, pc, p, w[p])
+    let p = place_of(kept, 16, pc, 16)?;
+    Site { kept, w, t, pc, p }.first()
 }

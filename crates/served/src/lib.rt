@@ -1,6 +1,6 @@
-// What a quick step promises, and the parts that quick steps are made of.
+// What a quick step promises, and the one step that all quick steps are instances of.
 #![tactic(auto)]
 
 pub mod kinds;
-pub mod parts;
-pub mod store;
+mod parts;
+pub mod step;

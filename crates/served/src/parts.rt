@@ -1,92 +1,77 @@
-// The parts of a quick step: its instruction with the bytes behind the code, and what it came to.
-ghost use Rattle.std.specs.Prelude.{◌≡◌, Bool, true, false, ℕ, ◌+◌, length, get_or};
-ghost use Rattle.bus.specs.Access.{joined};
-ghost use Rattle.served.specs.Served.{Fetched, before, behind, ins_at};
+// The parts of a quick step: its instruction with the bytes behind the code, its operand, what it writes. Each is drawn in with what the
+// entry says, so that of its cases one is left.
+ghost use Rattle.std.specs.Prelude.{◌≡◌, ◌≤◌, length, IfSome, IfNone};
+ghost use Rattle.decode.specs.Entry.{bytes_in};
+ghost use Rattle.bus.specs.Leave.{listed};
+ghost use Rattle.kept.specs.Kept.{Inside, Writes};
+ghost use Rattle.served.specs.Served.{Fetched, Operand, before, behind, ins_at};
 
-use crate::kinds::{Acted, Code};
+use crate::kinds::Code;
 use cpu::stages::ins_of;
-use plan::kinds::Ins;
+use kept::access::{byte_at, put_one, put_two, word_at};
+use plan::kinds::{Ins, Spot, Write};
 use regs::Regs;
 
-pub fn done(r: Regs) -> Acted
-    ensures { result ≡ record { regs = r; known = true } }
-{
-    Acted {
-        regs: r.same(),
-        known: true,
-    }
-}
-
-pub fn none(r: Regs) -> Acted
-    ensures { result ≡ record { regs = r; known = false } }
-{
-    Acted {
-        regs: r.same(),
-        known: false,
-    }
-}
-
-fn wide(b: u8) -> u64
-    ensures { result ≡ b }
-{
-    b as u64
-}
-
-// b below the number of the bytes that follow it.
-fn join(b: u64, v: u64) -> u64
-    ensures { result ≡ joined b v }
-{
-    b % 256 + v % 16777216 * 256
-}
-
+#[inline(always)]
 fn displacement(c: Code, kept: &[u32; 48], w: &[u8]) -> u8
     requires { Fetched kept.now w.now c }
     ensures { result ≡ before c w.now }
 {
-    let stands = c.o > 4;
-    if stands {
-        return w[c.p - 2];
+    if c.o > 4 { w[c.p - 2] } else { 0 }
+}
+
+#[inline(always)]
+fn behind(n: u8, c: Code, kept: &[u32; 48], w: &[u8]) -> u64
+    requires fetched { Fetched kept.now w.now c }
+    requires n_in { n ≤ 2 }
+    ensures { result ≡ behind n w.now c.p }
+{
+    match n {
+        0 => 0,
+        1 => w[c.p] as u64,
+        _ => w[c.p] as u64 + w[c.p + 1] as u64 * 256,
     }
-    0
 }
 
-pub fn ins0(r: Regs, c: Code, kept: &[u32; 48], w: &[u8]) -> Ins
-    requires { Fetched kept.now w.now c }
-    ensures { result ≡ ins_at 0 r c w.now }
+#[inline(always)]
+pub fn ins(e: u16, r: Regs, c: Code, kept: &[u32; 48], w: &[u8]) -> Ins
+    requires fetched { Fetched kept.now w.now c }
+    requires bytes { bytes_in e ≤ 2 }
+    requires entry { c.e ≡ e }
+    ensures { result ≡ ins_at (bytes_in c.e) r c w.now }
 {
-    ins_of(r, c.o, c.b, displacement(c, kept, w), c.e, c.at, 0)
+    let n = behind(decode::bytes_of(e), c, kept, w);
+    ins_of(r, c.o, c.b, displacement(c, kept, w), e, c.at, n)
 }
 
-fn behind1(c: Code, kept: &[u32; 48], w: &[u8]) -> u64
-    requires { Fetched kept.now w.now c }
-    ensures { result ≡ behind 1 w.now c.p }
+// No quick step reads by program.
+#[inline(always)]
+pub fn operand(s: Spot, kept: &[u32; 48], w: &[u8]) -> Option<u32>
+    requires { Inside kept.now (length w.now) }
+    ensures { IfSome result (λ v. Operand kept.now w.now s v) }
 {
-    let p = c.p;
-    join(wide(w[p]), 0)
+    if s.program {
+        return None;
+    }
+    match s.n {
+        0 => Some(0),
+        1 => byte_at(kept, w, s.a),
+        2 => word_at(kept, w, s.a),
+        _ => None,
+    }
 }
 
-fn behind2(c: Code, kept: &[u32; 48], w: &[u8]) -> u64
-    requires { Fetched kept.now w.now c }
-    ensures { result ≡ behind 2 w.now c.p }
+// No quick step writes by program.
+#[inline(always)]
+pub fn store(m: Write, kept: &[u32; 48], w: &mut [u8]) -> Option<()>
+    requires { Inside kept.now (length w.old) }
+    ensures w_unchanged { IfNone result (w.new ≡ w.old) }
+    ensures wrote { IfSome result (λ _. Writes kept.now (listed m) w.old w.new) }
 {
-    let p = c.p;
-    let low = wide(w[p]);
-    let high = wide(w[p + 1]);
-    join(low, join(high, 0))
-}
-
-pub fn ins1(r: Regs, c: Code, kept: &[u32; 48], w: &[u8]) -> Ins
-    requires { Fetched kept.now w.now c }
-    ensures { result ≡ ins_at 1 r c w.now }
-{
-    let n = behind1(c, kept, w);
-    ins_of(r, c.o, c.b, displacement(c, kept, w), c.e, c.at, n)
-}
-
-pub fn ins2(r: Regs, c: Code, kept: &[u32; 48], w: &[u8]) -> Ins
-    requires { Fetched kept.now w.now c }
-    ensures { result ≡ ins_at 2 r c w.now }
-{
-    let n = behind2(c, kept, w);
-    ins_of(r, c.o, c.b, displacement(c, kept, w), c.e, c.at, n)
+    match m {
+        Write::Nothing => Some(()),
+        Write::One(false, a, b) => put_one(kept, w, a, b),
+        Write::Two(false, a, v) => put_two(kept, w, a, v),
+        _ => None,
+    }
 }

@@ -1,8 +1,0 @@
--- `kept::access::join` meets its contract.
-use mathlib.Core.Path.{refl}
-use Rattle.bus.specs.Access.{joined}
-use Rattle.kept.proofs.access.join.Goals as goal
-
-pub returns : goal.returns
-unfolding joined
-returns c = refl

@@ -1,5 +1,0 @@
--- `served::parts::done` meets its contract.
-use Rattle.served.proofs.parts.done.Goals as goal
-
-pub returns : goal.returns
-returns c = simp (← c.same.ensures)
