@@ -75,13 +75,6 @@ read_seat a l =
     (ne_eqb (a / 4096 / 16) 1 (λ e. omega arith), ne_eqb (a / 4096 / 16) 2 (λ e. omega arith))
 
 module _ (kept w : List ℕ) (a : ℕ) (l : a < 65536) (inside : Inside kept (length w)) (t : eqb (get_or kept (a / 4096) 0) 1 ≡ false) where
-  -- the place of a byte at x in the page of a
-  pub read_in : (p x : ℕ) → p ≡ get_or kept (a / 4096) 0 + x → x < 4096 → p < length w
-  read_in p x e h =
-      let k : a / 4096 < 48 = omega arith in
-      let i : get_or kept (a / 4096) 0 + 4096 ≤ length w = inside (a / 4096) k t in
-      omega arith
-
   module _ (user : Bool) (mmu : ℕ) (ds : List ℕ) (right : Right kept user mmu ds) where
     data_read : (c p : ℕ) → c < 65536 → c / 4096 ≡ a / 4096 → p ≡ get_or kept (a / 4096) 0 + c % 4096 → read_from user mmu ds w false c ≡ Ok (get_or w p 0)
     data_read c p m q e =

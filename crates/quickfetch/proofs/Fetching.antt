@@ -7,7 +7,7 @@ use native.Mathlib.Omega.{arith}
 use native.Mathlib.Nat.{add-zero}
 use borrow.Author.Tests.{eqb-true, ltb-true, ne_eqb}
 use lib.Dec.{eqb, ltb}
-use lib.ListN.{length, get_or}
+use lib.ListN.{get_or}
 use Rattle.decode.specs.Opening.{opening_of, after_opening, entered}
 use Rattle.decode.specs.Dd.{formats_dd}
 use Rattle.decode.specs.Fd.{formats_fd}
@@ -67,14 +67,6 @@ passes kept w l m None s h = s
 passes kept w l m (Some q) s h = (s.0, λ user mmu ds R. h user mmu ds R ∙ s.1 user mmu ds R)
 
 module _ (kept w : List ℕ) (pc p : ℕ) (S : IsSite kept w pc p) where
-  pub reach : (j : ℕ) → j ≤ 4 → p + j < length w
-  reach j h =
-      let i : get_or kept (16 + pc / 4096) 0 + 4096 ≤ length w = S.inside (16 + pc / 4096) (omega (arith, S.page)) S.some in
-      omega (arith, i, S.place, S.room)
-
-  pub inside : p < length w
-  inside = omega (arith, reach 0 (omega arith))
-
   same_page : (j : ℕ) → j ≤ 4 → (pc + j) / 4096 ≡ pc / 4096
   same_page j h = omega (arith, S.room)
 

@@ -1,6 +1,6 @@
 -- The bytes of an instruction in a kept page.
 use Rattle.std.specs.Prelude.{Ok}
-use Prim.Native.Nat.{ℕ, zero, suc, ◌+◌, ◌-◌, ◌/◌, ◌%◌, ◌≤◌, ◌<◌}
+use Prim.Native.Nat.{ℕ, zero, suc, ◌+◌, ◌/◌, ◌%◌, ◌≤◌}
 use mathlib.Core.Path.{◌≡◌, refl, sym, ◌∙◌, ap}
 use mathlib.Core.Bool.{Bool, true, false}
 use mathlib.Core.List.{List}
@@ -12,11 +12,6 @@ use Rattle.kept.specs.Kept.{Right, Inside}
 use Rattle.kept.proofs.Kept.{reads}
 use Rattle.served.specs.declared.kinds.Code.{Code}
 use Rattle.served.specs.Served.{Fetched, behind}
-
-pub in_memory : (kept w : List ℕ) (q : Code) → Fetched kept w q → q.p + 4 < length w
-in_memory kept w q F =
-    let i : get_or kept (16 + q.at / 4096) 0 + 4096 ≤ length w = F.inside (16 + q.at / 4096) (omega (arith, F.stands.page)) F.stands.some in
-    omega (arith, i, F.stands.place, F.stands.room)
 
 module _ (kept w : List ℕ) (u : Bool) (mmu : ℕ) (ds : List ℕ) (R : Right kept u mmu ds) (N : Inside kept (length w)) (P : ℕ) (s : eqb (get_or kept (16 + P) 0) 1 ≡ false) (b : P ≤ 15) where
   pub one : (at p : ℕ) → at / 4096 ≡ P → p ≡ get_or kept (16 + P) 0 + at % 4096 → read_from u mmu ds w true at ≡ Ok (get_or w p 0)
@@ -38,13 +33,3 @@ pub behind_is : (kept w : List ℕ) (q : Code) → Fetched kept w q → (k : ℕ
     got_many k u mmu ds w true q.at ≡ Ok (behind k w q.p)
 behind_is kept w q F k h u mmu ds R =
     bytes kept w u mmu ds R F.inside (q.at / 4096) F.stands.some F.stands.page k q.at q.p refl F.stands.place (omega (arith, h, F.stands.room))
-
--- the places of the displacement before, of the first and of the second byte behind
-pub before_in : (kept w : List ℕ) (q : Code) → Fetched kept w q → q.p - 2 < length w
-before_in kept w q F = omega (arith, in_memory kept w q F)
-
-pub first_in : (kept w : List ℕ) (q : Code) → Fetched kept w q → q.p < length w
-first_in kept w q F = omega (arith, in_memory kept w q F)
-
-pub second_in : (kept w : List ℕ) (q : Code) → Fetched kept w q → q.p + 1 < length w
-second_in kept w q F = omega (arith, in_memory kept w q F)
