@@ -35,6 +35,7 @@ const CONTROL: Control = Control {
     vector: 0,
 };
 
+// By document 01's number, as a case's text gives it.
 fn stop(number: u16, first: u16, second: u16) -> Stop {
     match number {
         3 => Stop::Privileged(first),

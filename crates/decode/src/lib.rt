@@ -57,7 +57,7 @@ pub fn entry(o: u8, b: u8) -> u16
     Tables::new().entry(o, b)
 }
 
-// The opening that a first byte begins; 0 where it begins none.
+// The opening that a first byte begins, by the index of its table; 0, the index of the table without an opening, where it begins none.
 #[tactic(auto, unfolding(crate::specs::Opening::opening_of))]
 pub fn opening_of(b: u8) -> u8
     ensures { result ≡ opening_of b }

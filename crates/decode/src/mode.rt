@@ -1,4 +1,5 @@
-// Where the memory operand is: the addressing modes of chapter 4 by number, named as in specs/Mode.antt.
+// Where the memory operand is: the addressing modes of chapter 4 by number, named as in specs/Mode.antt; numbers as operations are (op).
+
 // No memory operand.
 pub const NO: u8 = 0;
 

@@ -1,4 +1,5 @@
-// The operations by number, named as in specs/Op.antt.
+// The operations by number, named as in specs/Op.antt. They are no enum: an entry holds the number in seven bits, and the definitions of
+// what an operation does are a list in the order of the numbers; a conversion would be a match of all 115 before the match that chooses.
 pub const LEFT_OUT: u8 = 1;
 
 pub const EXTENDED: u8 = 2;

@@ -1,5 +1,6 @@
 // The work of an operation, by its number. A match for each group of the manual, each in the last arm of the one before it: the compiler
-// makes one flat match of them, which can be drawn into the run's loop, and each is proved by itself.
+// makes one flat match of them, which can be drawn into the run's loop, and each is proved by itself. A table of functions is no plainer, and
+// what a pointer calls can't be drawn in.
 // The four that have to do with the alternate registers stand apart: EX AF,AF' and EXX, so that those registers never change in that
 // loop, and JAF and JAR, so that the bank bits aren't looked at there.
 #![tactic(auto, unfolding(crate::specs::Tried::tried_of, crate::specs::Tried::tried_by, crate::specs::Tried::swaps, crate::specs::Execute::execute_by))]

@@ -58,7 +58,7 @@ pub fn ei_n(r: Regs, c: Control, i: Ins) -> Governed
     end(r, enable(mask_of(i), c))
 }
 
-// The control register at the address k; d where there is none.
+// The control register at the address k, a number of the manual's that the guest has in C; d where there is none.
 fn control_at(k: u8, c: Control, d: u16) -> u16
     ensures { result ≡ control_at k c d }
 {

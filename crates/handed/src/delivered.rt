@@ -36,6 +36,7 @@ fn call_in(operand: u32, next: u32) -> Option<Event>
     Some(Event::Stopped(Stop::Call(operand, next)))
 }
 
+// By document 01's number, as the bytes of a call for C give it.
 #[tactic(auto, unfolding(crate::specs::Handed::taken))]
 fn taken(number: u16, first: u32, second: u32) -> Option<Event>
     ensures { result ≡ taken number first second }

@@ -7,7 +7,7 @@ use plan::places::{code_at, data_at};
 use plan::stack::{pop, push};
 use regs::Regs;
 
-// Where POP to memory writes.
+// Where POP to memory writes, by two bits of the operation code: a number, as the definition has it.
 fn pop_spot(r: Regs, i: Ins) -> Spot
     ensures { result ≡ pop_spot r i }
 {

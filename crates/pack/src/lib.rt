@@ -78,7 +78,7 @@ pub fn get_all(s: &[u8], ws: &[u8], vs: &mut [u16])
     }
 }
 
-// The list dst from index k on becomes src; the rest of it stays.
+// The list dst from index k on becomes src; the rest of it stays. One call of the library, with a promise over the whole list for its callers.
 pub fn copy_into<T: Copy>(dst: &mut [T], k: usize, src: &[T])
     requires { k + length src.now ≤ length dst.old }
     ensures { dst.new ≡ pasted dst.old k src.now }

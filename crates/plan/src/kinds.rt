@@ -108,6 +108,7 @@ pub fn plus16(a: u16, b: u16) -> u16
     a.wrapping_add(b)
 }
 
+// The low bits of a number: the library truncates no number by a method, and `as` asks that it fits.
 pub fn low8(v: u32) -> u8
     ensures { result ≡ byte v }
 {

@@ -1,9 +1,11 @@
-// The registers that the fields of an operation code name, under an opening sequence.
+// The registers that the fields of an operation code name, under an opening sequence. Field and opening stay numbers: they are bits of the code
+// and the index of a decode table, by which the definitions (specs/Select.antt) choose; an enum's conversion would be the same match again.
 ghost use Rattle.std.specs.Prelude.{◌≡◌};
 ghost use Rattle.regs.specs.Select.{high, low, put_high, put_low, index_of, put_index, byte_of, put_byte, sp_of, put_sp, pair_of, put_pair, stacked_of, put_stacked, condition_of, a_of, f_of, put_a, with_f};
 
 use crate::Regs;
 
+// One half of a word by the definition's own words: `to_be_bytes` gives both halves to take one from.
 pub fn high_of(w: u16) -> u8
     ensures { result ≡ high w }
 {
