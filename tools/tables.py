@@ -67,9 +67,15 @@ pub fn table() -> [u16; 256]
     put(f"src/{name}.rt", text)
 
 
+OPERATIONS = """\
+// The operations by number, named as in specs/Op.antt. They are no enum: an entry holds the number in seven bits, and the definitions of
+// what an operation does are a list in the order of the numbers; a conversion would be a match of all 115 before the match that chooses.
+"""
+
+
 def constants():
     lines = [f"pub const {name.upper()}: u8 = {number};\n" for name, number in OP.items()]
-    put("src/op.rt", "// The operations by number, named as in specs/Op.antt.\n" + "\n".join(lines))
+    put("src/op.rt", OPERATIONS + "\n".join(lines))
 
 
 def counts(file):

@@ -81,6 +81,7 @@ fn put_two(
     let p = room_for(mode, ds, w.len(), k, a)?;
     let z = next_of(a);
     let q = room_for(mode, ds, w.len(), k, z)?;
+    // The two halves by the definition's words (`two_writes`).
     w[p as usize] = (v % 256) as u8;
     w[q as usize] = (v / 256) as u8;
     mode.mark(ds, k, a);

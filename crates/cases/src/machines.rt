@@ -7,33 +7,7 @@ use crate::cells::Cells;
 use bus::kinds::Event;
 use events::Numbered;
 use plan::kinds::Stop;
-use regs::{Control, Machine, Regs};
-
-const REGS: Regs = Regs {
-    af: 0,
-    bc: 0,
-    de: 0,
-    hl: 0,
-    af2: 0,
-    bc2: 0,
-    de2: 0,
-    hl2: 0,
-    ix: 0,
-    iy: 0,
-    pc: 0,
-    ssp: 0,
-    usp: 0,
-    bankaf: false,
-    bankx: false,
-};
-
-const CONTROL: Control = Control {
-    msr: 0,
-    tcr: 0,
-    iopage: 0,
-    limit: 0,
-    vector: 0,
-};
+use regs::Machine;
 
 // By document 01's number, as a case's text gives it.
 fn stop(number: u16, first: u16, second: u16) -> Stop {
@@ -51,12 +25,7 @@ fn stop(number: u16, first: u16, second: u16) -> Stop {
 impl Cells {
     pub fn empty() -> Cells {
         Cells {
-            machine: Machine {
-                regs: REGS,
-                ctl: CONTROL,
-                mmu: 0,
-                ds: [0; 32],
-            },
+            machine: legal::reset(),
             bankaf: 0,
             bankx: 0,
             refusal: 0,
@@ -89,6 +58,7 @@ impl Cells {
         }
     }
 
+    // The refusal by its number, since a case compares it as a cell.
     pub fn put_answer(&mut self, refusal: u8, m: Machine)
         ensures { (self.new.refusal ≡ refusal) × (self.new.machine ≡ m) }
     {

@@ -5,7 +5,7 @@ ghost use Rattle.cpu.specs.Lead.{lead_fourth, lead_third, lead_second, lead_firs
 use crate::kinds::Lead;
 use board::Fault;
 use bus::read::{next_of, read_byte};
-use decode::Tables;
+use decode::Entries;
 use mmu::Mode;
 
 // After DD CB d or FD CB d.
@@ -81,7 +81,7 @@ fn lead_first(
     mode: Mode,
     ds: &[u16; 32],
     w: &[u8],
-    t: &Tables,
+    t: &Entries,
     a: u16,
     b: u8,
 ) -> Result<Lead, Fault>
@@ -101,7 +101,7 @@ fn lead_first(
 }
 
 #[tactic(auto, unfolding(crate::specs::Lead::lead_of, crate::specs::Lead::lead_by))]
-pub fn lead_of(mode: Mode, ds: &[u16; 32], w: &[u8], t: &Tables, pc: u16) -> Result<Lead, Fault>
+pub fn lead_of(mode: Mode, ds: &[u16; 32], w: &[u8], t: &Entries, pc: u16) -> Result<Lead, Fault>
     ensures { result ≡ lead_of mode.user mode.control ds.now w.now pc }
 {
     let b = read_byte(mode, ds, w, true, pc)?;

@@ -14,7 +14,7 @@ use board::Fault;
 use bus::kinds::Turn;
 use bus::read::read_number;
 use bus::store::{denied, write_out};
-use decode::{Tables, op};
+use decode::{Entries, op};
 use mmu::Mode;
 use plan::kinds::{Ins, Spot};
 use regs::{Control, Regs};
@@ -52,7 +52,7 @@ fn judge(x: Begun, ds: &mut [u16; 32], w: &mut [u8], i: Ins) -> Result<Turn, Fau
     work(x, ds, w, i, s, (v % 4294967296) as u32)
 }
 
-fn attempt(x: Begun, ds: &mut [u16; 32], w: &mut [u8], t: &Tables) -> Result<Turn, Fault>
+fn attempt(x: Begun, ds: &mut [u16; 32], w: &mut [u8], t: &Entries) -> Result<Turn, Fault>
     ensures { came x.regs x.ctl x.mode.control result ds.new w.new ≡ exec (program x.regs x.ctl) (state_of x.regs x.ctl x.mode.control ds.old w.old) }
 {
     let l = lead_of(x.mode, ds, w, t, x.regs.pc)?;
@@ -66,7 +66,7 @@ fn attempt(x: Begun, ds: &mut [u16; 32], w: &mut [u8], t: &Tables) -> Result<Tur
     judge(x, ds, w, i)
 }
 
-pub fn step(r: Regs, c: Control, control: u16, ds: &mut [u16; 32], w: &mut [u8], t: &Tables) -> Turn
+pub fn step(r: Regs, c: Control, control: u16, ds: &mut [u16; 32], w: &mut [u8], t: &Entries) -> Turn
     ensures { whole result ds.new w.new ≡ exec (program r c) (state_of r c control ds.old w.old) }
 {
     let mode = Mode::of(control, c.user());

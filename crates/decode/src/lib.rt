@@ -17,44 +17,57 @@ pub mod mode;
 mod none;
 pub mod op;
 
-// The nine tables in the order of the openings' numbers, held and lent: a const table would be copied at each lookup.
+// The nine tables, held and lent: a const table would be copied at each lookup.
 #[derive(Drop)]
-pub struct Tables {
+pub struct Entries {
     entries: [[u16; 256]; 9],
     ghost told: { entries ≡ tabled },
 }
 
-impl Tables {
-    pub fn new() -> Tables {
-        let none = none::table();
-        let cb = cb::table();
-        let ed = ed::table();
-        let dd = dd::table();
-        let fd = fd::table();
-        let dd_cb = dd_cb::table();
-        let fd_cb = fd_cb::table();
-        let dd_ed = dd_ed::table();
-        let fd_ed = fd_ed::table();
-        Tables {
-            entries: [none, cb, ed, dd, fd, dd_cb, fd_cb, dd_ed, fd_ed],
-        }
+// The nine tables in the order of the openings' numbers.
+pub fn tables() -> [[u16; 256]; 9]
+    ensures { result ≡ tabled }
+{
+    let none = none::table();
+    let cb = cb::table();
+    let ed = ed::table();
+    let dd = dd::table();
+    let fd = fd::table();
+    let dd_cb = dd_cb::table();
+    let fd_cb = fd_cb::table();
+    let dd_ed = dd_ed::table();
+    let fd_ed = fd_ed::table();
+    [none, cb, ed, dd, fd, dd_cb, fd_cb, dd_ed, fd_ed]
+}
+
+// The entry of the operation code b after the opening o.
+pub fn entry_in(t: &[[u16; 256]; 9], o: u8, b: u8) -> u16
+    requires { t.now ≡ tabled }
+    ensures { result ≡ entered o b }
+{
+    if o > 8 {
+        return 0;
+    }
+    t[o as usize][b as usize]
+}
+
+impl Entries {
+    pub fn new() -> Entries {
+        let entries = tables();
+        Entries { entries }
     }
 
-    // The entry of the operation code b after the opening o.
     pub fn entry(&self, o: u8, b: u8) -> u16
         ensures { result ≡ entered o b }
     {
-        if o > 8 {
-            return 0;
-        }
-        self.entries[o as usize][b as usize]
+        entry_in(&self.entries, o, b)
     }
 }
 
 pub fn entry(o: u8, b: u8) -> u16
     ensures { result ≡ entered o b }
 {
-    Tables::new().entry(o, b)
+    Entries::new().entry(o, b)
 }
 
 // The opening that a first byte begins, by the index of its table; 0, the index of the table without an opening, where it begins none.

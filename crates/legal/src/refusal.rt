@@ -3,8 +3,6 @@ ghost use Rattle.std.specs.Prelude.{◌≡◌};
 ghost use Rattle.legal.specs.Refusal.{number_of, refused_by};
 
 use regs::Machine;
-use std::error::Error;
-use std::fmt;
 
 #[derive(Clone, Copy, PartialEq, Eq, Debug)]
 pub enum Refusal {
@@ -47,14 +45,6 @@ impl Refusal {
         }
     }
 }
-
-impl fmt::Display for Refusal {
-    fn fmt<W: fmt::Write>(&self, f: &mut fmt::Formatter<W>) -> fmt::Result {
-        write!(f, "refused {}", self.number())
-    }
-}
-
-impl Error for Refusal {}
 
 // A call on a record that did nothing: why, and the record as the call got it.
 #[derive(Clone, Copy)]

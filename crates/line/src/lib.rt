@@ -49,7 +49,7 @@ fn put_decimal(l: &mut Line, v: u16)
     l.put(buffer.format(v).as_bytes());
 }
 
-fn refused_line(k: u8) -> Line
+pub fn refused_line(k: u8) -> Line
     ensures { Spells result (refused_line k) }
 {
     let mut l = Line::new();
@@ -59,7 +59,7 @@ fn refused_line(k: u8) -> Line
     l
 }
 
-fn ended_line(e: End) -> Line
+pub fn ended_line(e: End) -> Line
     ensures { Spells result (ended_line e.event e.steps e.pc) }
 {
     let mut l = Line::new();

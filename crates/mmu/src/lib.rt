@@ -2,7 +2,7 @@
 #![tactic(auto)]
 
 ghost use Rattle.std.specs.Prelude.{◌≡◌, ◌+◌, ◌<◌, ◌≤◌, ◌%◌, cond, get_or};
-ghost use Rattle.mmu.specs.Translate.{mode_bits, translating, barred, index, number_of, physical, by_descriptor, translate, marked, valid, set_modified, set_valid, change, latched};
+ghost use Rattle.mmu.specs.Translate.{mode_bits, translating, barred, index, number_of, physical, by_descriptor, placed, translate, marked, valid, set_modified, set_valid, change, latched};
 
 // An access violation, by the number of the descriptor that bars the access.
 #[derive(Clone, Copy, Debug, PartialEq, Eq)]
@@ -115,6 +115,56 @@ fn by_page(
     by_descriptor(apart, n, ds[n as usize], write, a)
 }
 
+// The number of the descriptor that an address is translated by.
+#[tactic(auto, unfolding(crate::specs::Translate::number_of))]
+pub fn number_of(bits: u8, user: bool, program: bool, a: u16) -> u8
+    ensures value { result ≡ number_of bits user program a }
+    ensures upper_bound { result < 32 }
+{
+    let apart = bits % 2 == 1;
+    page_of(apart, user, program, a)
+}
+
+// By any two enable bits; those above them say nothing. Each way of choosing pages is called for by itself: where `apart` is known, an
+// address is a shift and a mask.
+#[tactic(auto, unfolding(crate::specs::Translate::placed, crate::specs::Translate::number_of))]
+pub fn translate(
+    bits: u8,
+    user: bool,
+    ds: &[u16; 32],
+    program: bool,
+    write: bool,
+    a: u16,
+) -> Result<u64, Violated>
+    ensures { result ≡ placed bits user ds.now program write a }
+{
+    let on = bits / 2 % 2 == 1;
+    if !on {
+        return Ok(u64::from(a));
+    }
+    let apart = bits % 2 == 1;
+    if apart {
+        by_page(true, user, ds, program, write, a)
+    } else {
+        by_page(false, user, ds, program, write, a)
+    }
+}
+
+// The page of a write gets its modified bit, where it is translated.
+#[tactic(auto, unfolding(crate::specs::Translate::marked))]
+pub fn mark(bits: u8, user: bool, ds: &mut [u16; 32], program: bool, a: u16)
+    ensures { ds.new ≡ marked bits user program a ds.old }
+{
+    let on = bits / 2 % 2 == 1;
+    if on {
+        let n = number_of(bits, user, program, a);
+        let i = n as usize;
+        let d = modified_of(ds[i]);
+        ds[i] = d;
+    }
+}
+
+// What a step's accesses ask, by the mode that it is in.
 impl Mode {
     pub fn of(control: u16, user: bool) -> Mode
         ensures control_value { result.control ≡ control }
@@ -135,18 +185,14 @@ impl Mode {
         self.bits / 2 % 2 == 1
     }
 
-    // The number of the descriptor that an address is translated by.
-    #[tactic(auto, unfolding(crate::specs::Translate::number_of))]
     pub fn number_of(self, program: bool, a: u16) -> u8
         ensures value { result ≡ number_of (mode_bits self.control self.user) self.user program a }
         ensures upper_bound { result < 32 }
     {
-        let apart = self.bits % 2 == 1;
-        page_of(apart, self.user, program, a)
+        number_of(self.bits, self.user, program, a)
     }
 
-    // Each way of choosing pages is called for by itself: where `apart` is known, an address is a shift and a mask.
-    #[tactic(auto, unfolding(crate::specs::Translate::translate, crate::specs::Translate::placed, crate::specs::Translate::number_of))]
+    #[tactic(auto, unfolding(crate::specs::Translate::translate))]
     pub fn translate(
         self,
         ds: &[u16; 32],
@@ -156,28 +202,13 @@ impl Mode {
     ) -> Result<u64, Violated>
         ensures { result ≡ translate self.control self.user ds.now program write a }
     {
-        if !self.translates() {
-            return Ok(u64::from(a));
-        }
-        let apart = self.bits % 2 == 1;
-        if apart {
-            by_page(true, self.user, ds, program, write, a)
-        } else {
-            by_page(false, self.user, ds, program, write, a)
-        }
+        translate(self.bits, self.user, ds, program, write, a)
     }
 
-    // The page of a write gets its modified bit, where it is translated.
-    #[tactic(auto, unfolding(crate::specs::Translate::marked))]
     pub fn mark(self, ds: &mut [u16; 32], program: bool, a: u16)
         ensures { ds.new ≡ marked (mode_bits self.control self.user) self.user program a ds.old }
     {
-        if self.translates() {
-            let n = self.number_of(program, a);
-            let i = n as usize;
-            let d = modified_of(ds[i]);
-            ds[i] = d;
-        }
+        mark(self.bits, self.user, ds, program, a);
     }
 }
 

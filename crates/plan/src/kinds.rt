@@ -101,7 +101,7 @@ pub fn storing_word(r: Regs, s: Spot, v: u16) -> Done
     }
 }
 
-// Addresses and 16 bit index sums wrap.
+// Addresses and 16 bit index sums wrap: the library's, under the definition's name that a law cites.
 pub fn plus16(a: u16, b: u16) -> u16
     ensures { result ≡ plus a b }
 {

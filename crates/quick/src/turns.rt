@@ -9,13 +9,13 @@ ghost use Rattle.cpu.specs.Program.{program};
 ghost use Rattle.kept.specs.Kept.{Right, Inside};
 
 use crate::kinds::Quick;
-use decode::Tables;
+use decode::Entries;
 use quick8::on_load8::act;
 use quickfetch::code_at;
 use regs::Regs;
 use served::kinds::Given;
 
-pub fn quick(r0: Regs, user: bool, kept: &[u32; 48], w: &mut [u8], t: &Tables, limit: u16) -> Quick
+pub fn quick(r0: Regs, user: bool, kept: &[u32; 48], w: &mut [u8], t: &Entries, limit: u16) -> Quick
     requires inside { Inside kept.now (length w.old) }
     ensures steps_le_limit { result.steps ≤ limit }
     ensures w_value { (c : Control) (mmu : ℕ) (ds : List ℕ) → user ≡ user_of c → Right kept.now user mmu ds → run program limit (state_of r0 c mmu ds w.old) ≡ later result.steps (run program (limit - result.steps) (state_of result.regs c mmu ds w.new)) }

@@ -8,7 +8,7 @@ ghost use Rattle.kept.specs.Kept.{Right, Inside};
 ghost use Rattle.served.specs.Served.{Fetched, before};
 ghost use Rattle.quickfetch.specs.Fetch.{IsSite, Leads};
 
-use decode::Tables;
+use decode::Entries;
 use kept::access::place_of;
 use served::kinds::Code;
 
@@ -17,7 +17,7 @@ use served::kinds::Code;
 struct Site<'a> {
     kept: &'a [u32; 48],
     w: &'a [u8],
-    t: &'a Tables,
+    t: &'a Entries,
     pc: u16,
     p: usize,
     ghost is_site: { IsSite kept.now w.now pc p },
@@ -100,7 +100,7 @@ impl Site<'_> {
     }
 }
 
-pub fn code_at(kept: &[u32; 48], w: &[u8], t: &Tables, pc: u16) -> Option<Code>
+pub fn code_at(kept: &[u32; 48], w: &[u8], t: &Entries, pc: u16) -> Option<Code>
     requires inside { Inside kept.now (length w.now) }
     ensures fetched { IfSome result (λ q. Fetched kept.now w.now q) }
     ensures pc_value { IfSome result (λ q. (user : Bool) (mmu : ℕ) (ds : List ℕ) → Right kept.now user mmu ds → lead_of user mmu ds w.now pc ≡ lead.code q.o q.b (before q w.now) q.at) }

@@ -12,7 +12,7 @@ mod table;
 use crate::table::Held;
 use bus::kinds::Event;
 use cpu::step::step;
-use decode::Tables;
+use decode::Entries;
 use mmu::Mode;
 use quick::turns::quick;
 use regs::{Control, Machine, Regs};
@@ -51,7 +51,7 @@ pub fn run_steps(m: Machine, w: &mut [u8], budget: u16) -> Ran
     let mut c = m.ctl;
     let mut control = m.mmu;
     let mut ds = m.ds;
-    let tables = Tables::new();
+    let tables = Entries::new();
     let mut held = Held::new(w.len());
     let mut n: u16 = 0;
     while n < budget {
