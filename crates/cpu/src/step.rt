@@ -66,7 +66,14 @@ fn attempt(x: Begun, ds: &mut [u16; 32], w: &mut [u8], t: &Entries) -> Result<Tu
     judge(x, ds, w, i)
 }
 
-pub fn step(r: Regs, c: Control, control: u16, ds: &mut [u16; 32], w: &mut [u8], t: &Entries) -> Turn
+pub fn step(
+    r: Regs,
+    c: Control,
+    control: u16,
+    ds: &mut [u16; 32],
+    w: &mut [u8],
+    t: &Entries,
+) -> Turn
     ensures { whole result ds.new w.new ≡ exec (program r c) (state_of r c control ds.old w.old) }
 {
     let mode = Mode::of(control, c.user());
