@@ -34,6 +34,7 @@ pub fn denied(r: Regs, c: Control, control: u16, e: Fault) -> Turn
 
 // The physical address that a write goes to.
 #[tactic(auto, unfolding(crate::specs::Access::room_for, board::specs::Program::through, board::specs::Program::if_room))]
+#[inline(always)]
 pub fn room_for(
     mode: Mode,
     ds: &[u16; 32],

@@ -20,6 +20,7 @@ use plan::kinds::{Ins, Spot};
 use regs::{Control, Regs};
 
 // Stage 5 and completion; v is the operand.
+#[inline(always)]
 fn work(x: Begun, ds: &mut [u16; 32], w: &mut [u8], i: Ins, s: Spot, v: u32) -> Result<Turn, Fault>
     ensures { came x.regs x.ctl x.mode.control result ds.new w.new ≡ exec (worked x.regs x.ctl i s v) (state_of x.regs x.ctl x.mode.control ds.old w.old) }
 {
@@ -41,6 +42,7 @@ fn work(x: Begun, ds: &mut [u16; 32], w: &mut [u8], i: Ins, s: Spot, v: u32) -> 
 }
 
 // Stages 2 to 4, and the work.
+#[inline(always)]
 fn judge(x: Begun, ds: &mut [u16; 32], w: &mut [u8], i: Ins) -> Result<Turn, Fault>
     ensures { came x.regs x.ctl x.mode.control result ds.new w.new ≡ exec (judged x.regs x.ctl i) (state_of x.regs x.ctl x.mode.control ds.old w.old) }
 {
@@ -52,6 +54,7 @@ fn judge(x: Begun, ds: &mut [u16; 32], w: &mut [u8], i: Ins) -> Result<Turn, Fau
     work(x, ds, w, i, s, (v % 4294967296) as u32)
 }
 
+#[inline(always)]
 fn attempt(x: Begun, ds: &mut [u16; 32], w: &mut [u8], t: &Entries) -> Result<Turn, Fault>
     ensures { came x.regs x.ctl x.mode.control result ds.new w.new ≡ exec (program x.regs x.ctl) (state_of x.regs x.ctl x.mode.control ds.old w.old) }
 {
@@ -66,6 +69,7 @@ fn attempt(x: Begun, ds: &mut [u16; 32], w: &mut [u8], t: &Entries) -> Result<Tu
     judge(x, ds, w, i)
 }
 
+#[inline(always)]
 pub fn step(
     r: Regs,
     c: Control,

@@ -128,6 +128,7 @@ pub fn number_of(bits: u8, user: bool, program: bool, a: u16) -> u8
 // By any two enable bits; those above them say nothing. Each way of choosing pages is called for by itself: where `apart` is known, an
 // address is a shift and a mask.
 #[tactic(auto, unfolding(crate::specs::Translate::placed, crate::specs::Translate::number_of))]
+#[inline(always)]
 pub fn translate(
     bits: u8,
     user: bool,
@@ -193,6 +194,7 @@ impl Mode {
     }
 
     #[tactic(auto, unfolding(crate::specs::Translate::translate))]
+    #[inline(always)]
     pub fn translate(
         self,
         ds: &[u16; 32],
@@ -205,6 +207,7 @@ impl Mode {
         translate(self.bits, self.user, ds, program, write, a)
     }
 
+    #[inline(always)]
     pub fn mark(self, ds: &mut [u16; 32], program: bool, a: u16)
         ensures { ds.new ≡ marked (mode_bits self.control self.user) self.user program a ds.old }
     {
