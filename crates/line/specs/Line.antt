@@ -4,11 +4,8 @@ use Rattle.legal.specs.declared.refusal.Refusal.{Refusal}
 use Rattle.legal.specs.Refusal.{number_of}
 use Rattle.line.specs.declared.buffer.Line.{Line}
 use Rattle.line.specs.declared.End.{End}
-
--- what is shown: a refusal's number, or an event's number, the steps that completed, PC
-pub data Shown : Type 0 where
-  Refused : ℕ → Shown
-  Ended : (event steps pc : ℕ) → Shown
+use Rattle.line.specs.declared.Shown.{Shown}
+use Rattle.line.specs.declared.Shown.TheVariants.{Refused, Ended}
 
 abbrev pub shows : Result End Refusal → Shown
 shows (Ok e) = Ended e.event e.steps e.pc

@@ -21,6 +21,24 @@ pub struct End {
     pub pc: u16,
 }
 
+// What is shown: a refusal's number, or the event's number, the steps that completed, PC.
+#[derive(Clone, Copy)]
+pub enum Shown {
+    Refused(u8),
+    Ended(u16, u16, u16),
+}
+
+impl From<Result<End, Refusal>> for Shown {
+    ghost from_gives = { λ r s. s ≡ shows r };
+
+    fn from(r: Result<End, Refusal>) -> Shown {
+        match r {
+            Ok(e) => Shown::Ended(e.event, e.steps, e.pc),
+            Err(k) => Shown::Refused(k.number()),
+        }
+    }
+}
+
 fn glyph(d: u16) -> u8
     ensures { result ≡ digit_glyph (d % 16) }
 {
@@ -73,11 +91,12 @@ pub fn ended_line(e: End) -> Line
     l
 }
 
-pub fn line_for(r: Result<End, Refusal>) -> Line
-    ensures { Spells result (line_of (shows r)) }
+// Any number, not only those of document 01.
+pub fn line_for(s: Shown) -> Line
+    ensures { Spells result (line_of s) }
 {
-    match r {
-        Ok(e) => ended_line(e),
-        Err(k) => refused_line(k.number()),
+    match s {
+        Shown::Refused(k) => refused_line(k),
+        Shown::Ended(event, steps, pc) => ended_line(End { event, steps, pc }),
     }
 }

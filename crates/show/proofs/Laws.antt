@@ -22,7 +22,8 @@ use Rattle.form.proofs.Tests.{length_3}
 use Rattle.steps.specs.declared.Ran.{Ran}
 use Rattle.host.specs.Host as host
 use Rattle.host.specs.Host.{refusal_of, ran, run_of}
-use Rattle.line.specs.Line.{Shown, Refused, Ended}
+use Rattle.line.specs.declared.Shown.{Shown}
+use Rattle.line.specs.declared.Shown.TheVariants.{Refused, Ended}
 use Rattle.events.specs.declared.Numbered.{Numbered}
 use Rattle.events.specs.Events.{event_numbers}
 use Rattle.show.specs.Image.{outcome, worked, answered, shown_of}

@@ -19,7 +19,9 @@ use Rattle.legal.proofs.Numbers.{numbered, numbered_back}
 use Rattle.host.specs.Host.{run_of}
 use Rattle.line.specs.declared.End.{End}
 use Rattle.line.specs.declared.buffer.Line.{Line}
-use Rattle.line.specs.Line.{Shown, Refused, Ended, shows, Spells}
+use Rattle.line.specs.declared.Shown.{Shown}
+use Rattle.line.specs.declared.Shown.TheVariants.{Refused, Ended}
+use Rattle.line.specs.Line.{shows, Spells}
 use Rattle.show.proofs.Laws.{accepted_run}
 use Rattle.show.specs.Image.{Outcome, outcome, worked, answered, shown_of}
 

@@ -6,7 +6,8 @@ use Rattle.bus.specs.Board.{real}
 use Rattle.form.specs.Form.{Reading, form_length, read_form}
 use Rattle.events.specs.Events.{event_numbers}
 use Rattle.host.specs.Host.{run_of}
-use Rattle.line.specs.Line.{Shown, Refused, Ended}
+use Rattle.line.specs.declared.Shown.{Shown}
+use Rattle.line.specs.declared.Shown.TheVariants.{Refused, Ended}
 
 -- ---- the answer, with the bytes of the input afterwards
 

@@ -8,6 +8,6 @@ fn main() {
     let mut input = [0u8; 65638];
     let n = io::read_full(0, &mut input);
     let shown = answer::show(&mut input[..n]);
-    let line = line::line_for(shown);
+    let line = line::line_for(shown.into());
     io::write_all(1, line.as_slice());
 }
