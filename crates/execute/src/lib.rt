@@ -16,8 +16,7 @@ use plan::kinds::{Done, Ins, Spot, still};
 use regs::Regs;
 
 fn controls(r: Regs, u: bool, i: Ins, s: Spot, v: u32) -> Option<Done>
-    requires { 100 ≤ i.op }
-    ensures { result ≡ tried_of r u i s v }
+    ensures { 100 ≤ i.op → result ≡ tried_of r u i s v }
 {
     match i.op {
         op::CALL => Some(jump::call(r, u, i, s)),
@@ -41,8 +40,7 @@ fn controls(r: Regs, u: bool, i: Ins, s: Spot, v: u32) -> Option<Done>
 }
 
 fn singles(r: Regs, u: bool, i: Ins, s: Spot, v: u32) -> Option<Done>
-    requires { 89 ≤ i.op }
-    ensures { result ≡ tried_of r u i s v }
+    ensures { 89 ≤ i.op → result ≡ tried_of r u i s v }
 {
     match i.op {
         op::BIT_R => Some(bits::bit_r(r, i)),
@@ -61,8 +59,7 @@ fn singles(r: Regs, u: bool, i: Ins, s: Spot, v: u32) -> Option<Done>
 }
 
 fn wides(r: Regs, u: bool, i: Ins, s: Spot, v: u32) -> Option<Done>
-    requires { 73 ≤ i.op }
-    ensures { result ≡ tried_of r u i s v }
+    ensures { 73 ≤ i.op → result ≡ tried_of r u i s v }
 {
     match i.op {
         op::ADC_XX_RR => Some(arith16::adc_xx_rr(r, u, i)),
@@ -86,8 +83,7 @@ fn wides(r: Regs, u: bool, i: Ins, s: Spot, v: u32) -> Option<Done>
 }
 
 fn sums(r: Regs, u: bool, i: Ins, s: Spot, v: u32) -> Option<Done>
-    requires { 60 ≤ i.op }
-    ensures { result ≡ tried_of r u i s v }
+    ensures { 60 ≤ i.op → result ≡ tried_of r u i s v }
 {
     match i.op {
         op::ALU_R => Some(arith8::alu_r(r, i)),
@@ -108,8 +104,7 @@ fn sums(r: Regs, u: bool, i: Ins, s: Spot, v: u32) -> Option<Done>
 }
 
 fn moves(r: Regs, u: bool, i: Ins, s: Spot, v: u32) -> Option<Done>
-    requires { 52 ≤ i.op }
-    ensures { result ≡ tried_of r u i s v }
+    ensures { 52 ≤ i.op → result ≡ tried_of r u i s v }
 {
     match i.op {
         op::CPD => Some(block::cpd(r, v)),
@@ -125,8 +120,7 @@ fn moves(r: Regs, u: bool, i: Ins, s: Spot, v: u32) -> Option<Done>
 }
 
 fn words(r: Regs, u: bool, i: Ins, s: Spot, v: u32) -> Option<Done>
-    requires { 34 ≤ i.op }
-    ensures { result ≡ tried_of r u i s v }
+    ensures { 34 ≤ i.op → result ≡ tried_of r u i s v }
 {
     match i.op {
         op::EX_DE_HL => Some(load16::exchange::ex_de_hl(r)),
@@ -152,8 +146,7 @@ fn words(r: Regs, u: bool, i: Ins, s: Spot, v: u32) -> Option<Done>
 }
 
 fn bytes(r: Regs, u: bool, i: Ins, s: Spot, v: u32) -> Option<Done>
-    requires { 24 ≤ i.op }
-    ensures { result ≡ tried_of r u i s v }
+    ensures { 24 ≤ i.op → result ≡ tried_of r u i s v }
 {
     match i.op {
         op::EX_A_R => Some(load8::ex_a_r(r, i)),
